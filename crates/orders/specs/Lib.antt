@@ -1,1 +1,5 @@
 pub mod Letters
+pub mod Kinds
+pub mod Phases
+pub mod Refusals
+pub mod Tables

@@ -1,6 +1,11 @@
-// What an order is made of: its kind, its side, its peg flag, and what a member asks for when entering one.
+// Orders: what they are made of, the table that holds them, and why the book refuses a call.
 ghost use mathlib.Core.Path.{_≡_};
+ghost use Rattle.orders.specs.Kinds.{is-displayed, more-aggressive};
 ghost use Rattle.orders.specs.Letters.{kind-letter, side-letter, flag-letter, kind-of, side-of, flag-of, Reads};
+ghost use Rattle.orders.specs.Phases.{phase-number};
+
+pub mod refusal;
+pub mod table;
 
 #[derive(Clone, Copy, Debug, PartialEq, Eq)]
 pub enum Kind {
@@ -23,6 +28,16 @@ pub enum Side {
 pub enum PegFlag {
     Pegged,
     NotPegged,
+}
+
+// The phases of a closing day, in order.
+#[derive(Clone, Copy, Debug, PartialEq, Eq)]
+pub enum Phase {
+    Entry,
+    Imbalance,
+    Freeze,
+    Extension,
+    Closed,
 }
 
 // What a member asks for when entering an order: prices in ten-thousandths of a dollar, broker 0 for unattributed.
@@ -58,6 +73,12 @@ impl Kind {
             _ => None,
         }
     }
+
+    pub fn is_displayed(self) -> bool
+        ensures { λ r. ⌜ r ≡ is-displayed self ⌝ }
+    {
+        matches!(self, Kind::Displayed)
+    }
 }
 
 impl Side {
@@ -80,6 +101,16 @@ impl Side {
             _ => None,
         }
     }
+
+    // Whether a limit at `price` is more aggressive than one at `other`: higher to buy, lower to sell.
+    pub fn more_aggressive(self, price: u32, other: u32) -> bool
+        ensures { λ r. ⌜ r ≡ more-aggressive self price other ⌝ }
+    {
+        match self {
+            Side::Buy => price > other,
+            Side::Sell => price < other,
+        }
+    }
 }
 
 impl PegFlag {
@@ -100,6 +131,20 @@ impl PegFlag {
             b'P' => Some(PegFlag::Pegged),
             b'N' => Some(PegFlag::NotPegged),
             _ => None,
+        }
+    }
+}
+
+impl Phase {
+    pub fn number(self) -> u8
+        ensures { λ r. ⌜ r ≡ phase-number self ⌝ }
+    {
+        match self {
+            Phase::Entry => 0,
+            Phase::Imbalance => 1,
+            Phase::Freeze => 2,
+            Phase::Extension => 3,
+            Phase::Closed => 4,
         }
     }
 }

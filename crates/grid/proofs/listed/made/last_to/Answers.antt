@@ -1,0 +1,13 @@
+use borrow.Author.Needs.{needs}
+use Rattle.std.proofs.shelf.Lists.{at-drop-more, at-drop-all}
+use Rattle.grid.specs.Lists.{last-to}
+use Rattle.grid.proofs.listed.made.last_to.Needs as need
+
+pub returns-then-p-n : need.returns-then-p-n
+returns-then-p-n c = search (needs, at-drop-more (last-to (c .loop-p .best) (c .args .n)))
+
+pub loop-p-again : need.loop-p-again
+loop-p-again c = search (needs, at-drop-more (last-to (c .loop-p .best) (c .args .n)))
+
+pub returns : need.returns
+returns c = search (needs, at-drop-all (last-to (c .loop-p .best) (c .args .n)))

@@ -1,0 +1,3 @@
+// Worked examples of the price rules.
+#[cfg(test)]
+mod tests;
