@@ -13,6 +13,12 @@ is-displayed Market = false
 is-displayed Limit = false
 is-displayed Displayed = true
 
+-- which kinds are closing orders and count in the closing imbalance
+abbrev pub is-closing : Kind → Bool
+is-closing Market = true
+is-closing Limit = true
+is-closing Displayed = false
+
 abbrev pub same-side : Side → Side → Bool
 same-side Buy Buy = true
 same-side Buy Sell = false

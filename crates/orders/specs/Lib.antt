@@ -3,3 +3,4 @@ pub mod Kinds
 pub mod Phases
 pub mod Refusals
 pub mod Tables
+pub mod Finding

@@ -9,15 +9,12 @@ use Rattle.std.proofs.shelf.Tests.{both-ways, cond-both, eqb-false, eqb-true, l
 use Rattle.std.proofs.shelf.Ways.{tells}
 use Rattle.grid.proofs.Nearest.{least-from-is, greatest-to-is}
 use Rattle.grid.specs.Prices.{Within-range, least-from, greatest-to}
+use Rattle.orders.proofs.Sides.{never-more}
 use Rattle.orders.specs.Kinds.{more-aggressive}
 use Rattle.orders.specs.declared.Side.{Side}
 use Rattle.orders.specs.declared.Side.the-variants.{Buy, Sell}
 use Rattle.orders.specs.declared.table.Order.{Order}
 use Rattle.peg.specs.Standing.{is-pegged, peg-price, pegged-at, standing, far-side, Stands}
-
-never-more : (side : Side) (p : ℕ) → more-aggressive side p p ≡ false
-never-more Buy p = grind (arith, tells)
-never-more Sell p = grind (arith, tells)
 
 -- a limit behind the peg is behind what the peg is behind
 behind-both : (side : Side) (peg limit p : ℕ) → more-aggressive side peg limit ≡ true → more-aggressive side peg p ≡ false → more-aggressive side limit p ≡ false

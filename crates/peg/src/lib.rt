@@ -1,6 +1,7 @@
 // The standing price of an order: its limit, or for an order entered in the freeze the less aggressive of its limit and
 // the midpoint on the grid.
 ghost use mathlib.Core.Path.{_≡_};
+ghost use Prim.Native.Nat.{_+_, _/_};
 ghost use Rattle.reference.specs.References.{twice};
 ghost use Rattle.peg.specs.Standing.{is-pegged, peg-price, pegged-at, standing, Stands};
 use grid::PriceSet;
@@ -16,14 +17,26 @@ fn is_pegged(order: &Order) -> bool
     matches!((order.kind, order.phase), (Kind::Limit, Phase::Freeze))
 }
 
+// Half of twice the reference, up to a whole number and down to one.
+fn rounded_up(reference: Reference) -> u32
+    ensures { λ r. ⌜ r ≡ (twice reference + 1) / 2 ⌝ }
+{
+    ((reference.doubled() + 1) / 2) as u32
+}
+
+fn rounded_down(reference: Reference) -> u32
+    ensures { λ r. ⌜ r ≡ twice reference / 2 ⌝ }
+{
+    (reference.doubled() / 2) as u32
+}
+
 // The reference on the grid, rounded up for buys and down for sells, and 0 where there is no such price.
 fn peg_price<S: PriceSet>(prices: &S, reference: Reference, side: Side) -> u32
     ensures { λ r. ⌜ r ≡ peg-price (holds (now (prices .entry))) (twice reference) side ⌝ }
 {
-    let doubled = reference.doubled();
     match side {
-        Side::Buy => prices.at_or_above(((doubled + 1) / 2) as u32),
-        Side::Sell => prices.at_or_below((doubled / 2) as u32),
+        Side::Buy => prices.at_or_above(rounded_up(reference)),
+        Side::Sell => prices.at_or_below(rounded_down(reference)),
     }
 }
 

@@ -13,6 +13,7 @@ use Rattle.std.proofs.shelf.Tests.{and-parts, both-ways, cases-bool, cases-lt, 
 use Rattle.std.proofs.shelf.Ways.{tells}
 use Rattle.std.specs.declared.option.Option.{Option}
 use Rattle.std.specs.declared.option.Option.the-variants.{None, Some}
+use Rattle.orders.proofs.Sides.{never-more}
 use Rattle.orders.specs.Kinds.{same-side, more-aggressive}
 use Rattle.orders.specs.Tables.{blank}
 use Rattle.orders.specs.declared.Side.{Side}
@@ -20,10 +21,6 @@ use Rattle.orders.specs.declared.Side.the-variants.{Buy, Sell}
 use Rattle.orders.specs.declared.table.Order.{Order}
 use Rattle.reference.specs.Quote.{makes-quote, quotes-on, better-of, best-step, best-limit, Best, Best-of-side}
 use Rattle.reference.specs.References.{sale-reference, quote-reference, reference-of, Behind-the-best, Steady}
-
-never-more : (side : Side) (p : ℕ) → more-aggressive side p p ≡ false
-never-more Buy p = grind (arith, tells)
-never-more Sell p = grind (arith, tells)
 
 -- what is no more aggressive than one limit is no more aggressive than a better one
 still-less : (side : Side) (p q best : ℕ) → more-aggressive side p best ≡ false → more-aggressive side q best ≡ true → more-aggressive side p q ≡ false

@@ -2,7 +2,7 @@
 ghost use mathlib.Core.Path.{_≡_};
 ghost use Prim.Native.Nat.{_+_, _^_, _≤_};
 ghost use Rattle.reference.specs.Quote.{makes-quote, best-step, best-limit, Best-of-side};
-ghost use Rattle.reference.specs.References.{twice, sale-reference, reference-of, Steady};
+ghost use Rattle.reference.specs.References.{twice, sale-reference, quote-reference, reference-of, Steady};
 use orders::Side;
 use orders::SidePartialEq;
 use orders::table::Order;
@@ -46,22 +46,28 @@ pub fn best_limit(orders: &[Order], side: Side) -> Option<u32>
     best
 }
 
+// The midpoint of bid and offer where both exist.
+fn midpoint(bid: Option<u32>, offer: Option<u32>, otherwise: Reference) -> Reference
+    ensures { λ r. ⌜ r ≡ quote-reference bid offer otherwise ⌝ }
+{
+    match (bid, offer) {
+        (Some(bid), Some(offer)) => Reference {
+            one: bid,
+            other: offer,
+        },
+        _ => otherwise,
+    }
+}
+
 impl Reference {
     // In the phases up to the freeze.
     pub fn of(orders: &[Order], last_sale: Option<u32>, previous_close: u32) -> Reference
         ensures value { λ r. ⌜ r ≡ reference-of (now (orders .entry)) «last_sale» «previous_close» ⌝ }
         ensures steady { λ r. ⌜ Steady (now (orders .entry)) «last_sale» «previous_close» r ⌝ }
     {
-        match (
-            best_limit(orders, Side::Buy),
-            best_limit(orders, Side::Sell),
-        ) {
-            (Some(bid), Some(offer)) => Reference {
-                one: bid,
-                other: offer,
-            },
-            _ => Reference::of_sales(last_sale, previous_close),
-        }
+        let bid = best_limit(orders, Side::Buy);
+        let offer = best_limit(orders, Side::Sell);
+        midpoint(bid, offer, Reference::of_sales(last_sale, previous_close))
     }
 
     // In the extension: the last sale, else the previous close.
