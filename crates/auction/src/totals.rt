@@ -19,7 +19,7 @@ pub struct FourTotals {
     pub closing_sells: u64,
 }
 
-fn is_eligible(order: &FoundOrder, price: u32) -> bool
+pub fn is_eligible(order: &FoundOrder, price: u32) -> bool
     ensures { λ r. ⌜ r ≡ eligible price (now (order .entry)) ⌝ }
 {
     match (order.kind, order.side) {

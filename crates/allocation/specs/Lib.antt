@@ -1,0 +1,4 @@
+pub mod Trades
+pub mod Holdings
+pub mod Naming
+pub mod Allocation
