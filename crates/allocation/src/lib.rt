@@ -1,4 +1,6 @@
 // Who trades with whom at the close.
+#![tactic(auto)]
+
 ghost use Rattle.std.specs.Prelude.{◌≡◌};
 ghost use Rattle.auction.specs.Orders.{listed};
 ghost use Rattle.allocation.specs.Allocation.{named, distinct, Answers};

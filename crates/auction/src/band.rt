@@ -9,7 +9,7 @@ use threshold::fail_band;
 
 // The prices of a set that lie in the fail band.
 pub fn in_fail_band<S: PriceSet + Copy>(prices: &S, reference: Reference) -> Band<S>
-    ensures { OpenInFailBand (holds prices.now) (twice reference) (between (holds result.prices) result.low result.high) }
+    ensures { OpenInFailBand (S.holds prices.now) (twice reference) (between (S.holds result.prices) result.low result.high) }
 {
     let range = fail_band(reference);
     Band {

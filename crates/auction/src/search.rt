@@ -46,7 +46,7 @@ fn cut_of(order: &FoundOrder) -> u32
 }
 
 fn least_above<S: PriceSet>(prices: &S, cut: u32) -> u32
-    ensures { result ≡ least_from (holds prices.now) (cut + 1) }
+    ensures { result ≡ least_from (S.holds prices.now) (cut + 1) }
 {
     match cut.checked_add(1) {
         Some(from) => prices.at_or_above(from),
@@ -83,8 +83,8 @@ fn add_around<S: PriceSet>(
     cut: u32,
 ) -> usize
     requires { count + 2 ≤ length points.old }
-    ensures count { result ≡ count + length (around (holds prices.now) (twice reference) (listed orders.now) cut) }
-    ensures after { take result points.new ≡ take count points.old ++ around (holds prices.now) (twice reference) (listed orders.now) cut }
+    ensures count { result ≡ count + length (around (S.holds prices.now) (twice reference) (listed orders.now) cut) }
+    ensures after { take result points.new ≡ take count points.old ++ around (S.holds prices.now) (twice reference) (listed orders.now) cut }
 {
     let below = prices.at_or_below(cut);
     let count = add_point(points, count, reference, orders, below);
@@ -101,7 +101,7 @@ fn list_candidates<S: PriceSet>(
 ) -> usize
     requires { 258 ≤ length points.old }
     ensures few { result ≤ 258 }
-    ensures after { take result points.new ≡ candidates (holds prices.now) (twice reference) (listed orders.now) }
+    ensures after { take result points.new ≡ candidates (S.holds prices.now) (twice reference) (listed orders.now) }
 {
     let midpoint = (reference.doubled() / 2) as u32;
     let mut count = add_around(points, 0, prices, reference, orders, midpoint);
@@ -124,10 +124,10 @@ pub fn best_price<S: PriceSet>(
     reference: Reference,
     orders: &FoundOrders,
 ) -> Option<PricePoint>
-    ensures value { result ≡ best_price (holds prices.now) (twice reference) (listed orders.now) }
-    ensures meaning { Strikes (holds prices.now) (twice reference) (listed orders.now) result }
-    ensures trades { TradesIfAny (holds prices.now) (listed orders.now) result }
-    ensures order_free { OrderFree (holds prices.now) (twice reference) (listed orders.now) result }
+    ensures value { result ≡ best_price (S.holds prices.now) (twice reference) (listed orders.now) }
+    ensures meaning { Strikes (S.holds prices.now) (twice reference) (listed orders.now) result }
+    ensures trades { TradesIfAny (S.holds prices.now) (listed orders.now) result }
+    ensures order_free { OrderFree (S.holds prices.now) (twice reference) (listed orders.now) result }
 {
     let mut points = [NO_POINT; MOST_CANDIDATES];
     let count = list_candidates(&mut points, prices, reference, orders);

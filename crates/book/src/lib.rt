@@ -1,4 +1,6 @@
 // The book of a closing auction, and the calls that members and the exchange make on it.
+#![tactic(auto)]
+
 ghost use Rattle.std.specs.Prelude.{◌≡◌};
 ghost use Rattle.book.specs.Calls.{opening};
 ghost use Rattle.book.specs.Phases.{phase_of, is_closed};

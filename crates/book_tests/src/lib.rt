@@ -1,4 +1,6 @@
 // Worked examples of the calls of the book.
+#![tactic(auto)]
+
 #[cfg(test)]
 mod advancing;
 #[cfg(test)]

@@ -1,4 +1,6 @@
 // A day of requests on one book.
+#![tactic(auto)]
+
 ghost use Rattle.std.specs.Result.{MatchResult};
 ghost use Rattle.day.specs.Law.{Ran, Unopened};
 

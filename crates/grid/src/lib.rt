@@ -1,4 +1,6 @@
 // Sets of prices: which prices there are, and the nearest of them to a number.
+#![tactic(auto)]
+
 ghost use Rattle.std.specs.Prelude.{ℕ, Bool};
 ghost use Rattle.grid.specs.Prices.{WithinRange, FirstPrice, LastPrice, AtOrAbove, AtOrBelow, cents, between};
 ghost use Rattle.std.proofs.Common.{rules};

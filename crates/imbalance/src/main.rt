@@ -1,5 +1,7 @@
 // Opens a book for the order file on standard input, and prints what happened to each message up to the first closing
 // call, and the imbalance notice then.
+#![tactic(auto)]
+
 use std::io::Read;
 
 // One byte more than the longest file, so that a longer one is seen to be too long.

@@ -1,4 +1,6 @@
 // Prints the readable text of the order file on standard input.
+#![tactic(auto)]
+
 use std::io::Read;
 
 // One byte more than the longest file, so that a longer one is seen to be too long.

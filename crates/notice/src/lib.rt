@@ -1,4 +1,6 @@
 // The imbalance notice: what members size their offsetting orders by.
+#![tactic(auto)]
+
 ghost use Rattle.std.specs.Prelude.{◌≡◌, ◌+◌, ◌^◌, ◌≤◌};
 ghost use Rattle.auction.specs.Orders.{listed};
 ghost use Rattle.auction.specs.Sums.{Grows};

@@ -1,4 +1,6 @@
 // Orders: what they are made of, the table that holds them, and why the book refuses a call.
+#![tactic(auto)]
+
 ghost use Rattle.std.specs.Prelude.{◌≡◌};
 ghost use Rattle.orders.specs.Kinds.{is_displayed, is_market, is_closing, more_aggressive};
 ghost use Rattle.orders.specs.Letters.{kind_letter, side_letter, flag_letter, kind_of, side_of, flag_of, Reads};

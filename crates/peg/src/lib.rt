@@ -1,5 +1,7 @@
 // The standing price of an order: its limit, or for an order entered in the freeze the less aggressive of its limit and
 // the midpoint on the grid.
+#![tactic(auto)]
+
 ghost use Rattle.std.specs.Prelude.{◌≡◌, ◌+◌, ◌/◌};
 ghost use Rattle.reference.specs.References.{twice};
 ghost use Rattle.peg.specs.Standing.{is_pegged, peg_price, pegged_at, standing, Stands};
@@ -30,7 +32,7 @@ fn rounded_down(reference: Reference) -> u32
 
 // The reference on the grid, rounded up for buys and down for sells, and 0 where there is no such price.
 fn peg_price<S: PriceSet>(prices: &S, reference: Reference, side: Side) -> u32
-    ensures { result ≡ peg_price (holds prices.now) (twice reference) side }
+    ensures { result ≡ peg_price (S.holds prices.now) (twice reference) side }
 {
     match side {
         Side::Buy => prices.at_or_above(rounded_up(reference)),
@@ -50,8 +52,8 @@ fn pegged_at(side: Side, limit: u32, peg: u32) -> u32
 
 // The price at which an order stands, given the prices of the grid and the reference that pegs follow.
 pub fn standing_price<S: PriceSet>(prices: &S, reference: Reference, order: &Order) -> u32
-    ensures value { result ≡ standing (holds prices.now) (twice reference) order.now }
-    ensures meaning { Stands (holds prices.now) (twice reference) order.now result }
+    ensures value { result ≡ standing (S.holds prices.now) (twice reference) order.now }
+    ensures meaning { Stands (S.holds prices.now) (twice reference) order.now result }
 {
     if !is_pegged(order) {
         return order.limit;

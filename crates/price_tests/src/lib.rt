@@ -1,3 +1,5 @@
 // Worked examples of the price rules.
+#![tactic(auto)]
+
 #[cfg(test)]
 mod tests;

@@ -1,4 +1,6 @@
 // Pairing rules: which pair of a buy and a sell trades first.
+#![tactic(auto)]
+
 ghost use Rattle.std.specs.Prelude.{◌≡◌, ℕ, Bool};
 ghost use Rattle.priority.specs.declared.Pair.{Pair};
 ghost use Rattle.priority.specs.Pairs.{pair_name, same_broker};

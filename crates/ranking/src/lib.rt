@@ -1,4 +1,6 @@
 // Which of two items comes first, and the first of a list.
+#![tactic(auto)]
+
 ghost use Rattle.std.specs.Prelude.{◌≡◌, Bool, length, MatchOption};
 ghost use Rattle.ranking.specs.Ranks.{Ranks, First};
 
@@ -23,7 +25,7 @@ pub trait Ranking {
 
 // The place of the first item, and none of an empty list only.
 pub fn first<R: Ranking>(rule: &R, items: &[R::Item]) -> Option<usize>
-    ensures { MatchOption result (length items.now ≡ 0) (First name (before rule.now) items.now) }
+    ensures { MatchOption result (length items.now ≡ 0) (First R.name (R.before rule.now) items.now) }
 {
     if items.is_empty() {
         return None;

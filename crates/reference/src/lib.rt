@@ -1,4 +1,6 @@
 // The reference price: the midpoint of the quote, else the last sale, else the previous close.
+#![tactic(auto)]
+
 ghost use Rattle.std.specs.Prelude.{◌≡◌, ◌+◌, ◌^◌, ◌≤◌};
 ghost use Rattle.reference.specs.Quote.{makes_quote, best_step, best_limit, BestOfSide};
 ghost use Rattle.reference.specs.References.{twice, sale_reference, quote_reference, reference_of, Steady};

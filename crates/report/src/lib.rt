@@ -1,4 +1,6 @@
 // The readable text of an order file.
+#![tactic(auto)]
+
 ghost use Rattle.std.specs.Prelude.{◌≡◌, map, IfOk, string_bytes};
 ghost use Rattle.orderfile.specs.Bodies.{told};
 ghost use Rattle.report.specs.Lines.{accepted_text, refused_text, file_text};

@@ -1,5 +1,7 @@
 // Times the search for the best price over a full table of 128 orders on the cents grid. The price is printed on standard
 // output, and the time of one search on standard error.
+#![tactic(auto)]
+
 use auction::found::FoundOrders;
 use auction::search::best_price;
 use grid::Cents;

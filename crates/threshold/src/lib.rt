@@ -1,4 +1,6 @@
 // Thresholds: which prices are close enough to the reference to be accepted, and which are in the fail band.
+#![tactic(auto)]
+
 ghost use Rattle.std.specs.Prelude.{◌≡◌, true, ◌-◌, ◌^◌, ◌<◌, min};
 ghost use Rattle.reference.specs.References.{twice};
 ghost use Rattle.threshold.specs.Percents.{accept_percent, fail_percent, distance, within, is_accepted, in_fail_band, lowest, highest, SpansFailBand};

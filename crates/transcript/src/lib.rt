@@ -1,4 +1,6 @@
 // What happened to each message of an order file, and the imbalance notice then.
+#![tactic(auto)]
+
 ghost use Rattle.std.specs.Prelude.{◌≡◌, map, IfOk, string_bytes};
 ghost use Rattle.grid.specs.Prices.{cents};
 ghost use Rattle.day.specs.Law.{given_answers};

@@ -5,21 +5,21 @@ use Rattle.allocation.proofs.Allocating.{not_refused, pairs_fit, fills_fit, buys
 use Rattle.allocation.proofs.Eligible.{both_held}
 use Rattle.allocation.proofs.allocate.Goals as goal
 
-pub slice-bounds-buys-end : goal.slice-bounds-buys-end
-slice-bounds-buys-end g c =
-    let few : length (listed c.args.orders.now) ≤ 128 = omega (arith, ap length c.as-slice.ensures.value, c.as-slice.ensures.few) in
+pub slice_bounds-buys-end : goal.slice_bounds-buys-end
+slice_bounds-buys-end g c =
+    let few : length (listed c.args.orders.now) ≤ 128 = omega (arith, ap length c.as_slice.ensures.value, c.as_slice.ensures.few) in
     omega (arith, c.hold-bought.ensures.count, both_held c.args.price (listed c.args.orders.now), few, c.hold-bought.auto.places)
 
-pub slice-bounds-sells-end : goal.slice-bounds-sells-end
-slice-bounds-sells-end g c =
-    let few : length (listed c.args.orders.now) ≤ 128 = omega (arith, ap length c.as-slice.ensures.value, c.as-slice.ensures.few) in
+pub slice_bounds-sells-end : goal.slice_bounds-sells-end
+slice_bounds-sells-end g c =
+    let few : length (listed c.args.orders.now) ≤ 128 = omega (arith, ap length c.as_slice.ensures.value, c.as_slice.ensures.few) in
     omega (arith, c.hold-sold.ensures.count, both_held c.args.price (listed c.args.orders.now), few, c.hold-sold.auto.places)
 
-pub trade-all-requires : goal.trade-all-requires
-trade-all-requires g c =
+pub trade_all-requires : goal.trade_all-requires
+trade_all-requires g c =
     let orders = listed c.args.orders.now in
-    let few : length orders ≤ 128 = omega (arith, ap length c.as-slice.ensures.value, c.as-slice.ensures.few) in
-    let all : distinct orders ≡ true = ap distinct (sym c.as-slice.ensures.value) ∙ sym c.if-not-are-distinct.ensures in
+    let few : length orders ≤ 128 = omega (arith, ap length c.as_slice.ensures.value, c.as_slice.ensures.few) in
+    let all : distinct orders ≡ true = ap distinct (sym c.as_slice.ensures.value) ∙ sym c.if-not-are_distinct.ensures in
     let buys = c.hold-bought.ensures.after in
     let sells = c.hold-sold.ensures.after in
     record {
@@ -32,8 +32,8 @@ trade-all-requires g c =
 pub returns : goal.returns
 returns g c =
     let orders = listed c.args.orders.now in
-    let all : distinct orders ≡ true = ap distinct (sym c.as-slice.ensures.value) ∙ sym c.if-not-are-distinct.ensures in
-    let done = c.trade-all.ensures in
+    let all : distinct orders ≡ true = ap distinct (sym c.as_slice.ensures.value) ∙ sym c.if-not-are_distinct.ensures in
+    let done = c.trade_all.ensures in
     record {
       answer = (
         not_refused orders _ _ c.if-pairs-lt-PAIRS.false c.if-fills-lt-FILLS.false all,

@@ -5,14 +5,14 @@ use Rattle.allocation.specs.Holdings.{vacant}
 use Rattle.allocation.proofs.Entries.{repeated_here, distinct_here, all_distinct}
 use Rattle.allocation.proofs.are_distinct.Goals as goal
 
-pub returns-then-has-entry : goal.returns-then-has-entry
-returns-then-has-entry c =
-    let rest = ap (named _) (sym (take_rest c.args.orders.now (c.loop-i.i + 1))) ∙ sym c.if-has-entry.ensures in
+pub returns-then-has_entry : goal.returns-then-has_entry
+returns-then-has_entry c =
+    let rest = ap (named _) (sym (take_rest c.args.orders.now (c.loop-i.i + 1))) ∙ sym c.if-has_entry.ensures in
     sym (repeated_here _ _ vacant.order c.loop-i-test.true rest) ∙ c.loop-i.invariant
 
 pub loop-i-preserved : goal.loop-i-preserved
 loop-i-preserved c =
-    let rest = ap (named _) (sym (take_rest c.args.orders.now (c.loop-i.i + 1))) ∙ sym c.if-has-entry.ensures in
+    let rest = ap (named _) (sym (take_rest c.args.orders.now (c.loop-i.i + 1))) ∙ sym c.if-has_entry.ensures in
     distinct_here _ _ vacant.order c.loop-i-test.true rest ∙ c.loop-i.invariant
 
 pub returns : goal.returns

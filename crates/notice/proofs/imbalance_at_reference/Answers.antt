@@ -8,6 +8,6 @@ use Rattle.notice.proofs.imbalance_at_reference.Goals as goal
 
 pub returns : goal.returns
 returns c = record {
-  value = c.between.ensures.value ∙ ap (λ (t : ℕ × ℕ). imbalance_of t.0 t.1) c.closing-totals-buys.ensures;
-  offset = evens_out (twice c.args.reference) (listed c.args.orders.now) _ (subst (λ (t : ℕ × ℕ). Leans t.0 t.1 c.between.result) c.closing-totals-buys.ensures c.between.ensures.leans);
+  value = c.between.ensures.value ∙ ap (λ (t : ℕ × ℕ). imbalance_of t.0 t.1) c.closing_totals-buys.ensures;
+  offset = evens_out (twice c.args.reference) (listed c.args.orders.now) _ (subst (λ (t : ℕ × ℕ). Leans t.0 t.1 c.between.result) c.closing_totals-buys.ensures c.between.ensures.leans);
 }

@@ -12,7 +12,7 @@ returns g c =
     let o = c.args.order.now in
     let value : c.pegged_at.result ≡ standing holds R o =
     c.pegged_at.ensures
-    ∙ ap (pegged_at o.side o.limit) c.peg-price-peg.ensures
-    ∙ sym (cond-true _ _ _ (sym c.if-not-is-pegged.ensures))
+    ∙ ap (pegged_at o.side o.limit) c.peg_price-peg.ensures
+    ∙ sym (cond-true _ _ _ (sym c.if-not-is_pegged.ensures))
     in
     record { value = value; meaning = subst (Stands holds R o) (sym value) (stands holds (g.met.S.PriceSet.ranged c.args.prices.now) R o) }

@@ -28,8 +28,8 @@ loop-i-preserved-then-buy-eq0 g c = (
   spent_buy c.trades.buys c.trades.sells _ _ c.loop-i-test.true _ _ c.loop-i.invariant.1 c.if-buy-eq0.true,
 )
 
-pub add-pairs-more-requires : goal.add-pairs-more-requires
-add-pairs-more-requires g c =
+pub add_pairs-more-requires : goal.add_pairs-more-requires
+add_pairs-more-requires g c =
     let fits : length (live_pairs 0 c.trades.buys c.trades.sells) ≤ length c.loop-i.pairs =
     omega (arith, pairs_fit c.trades.buys c.trades.sells _ _ _ c.trades.auto.buys c.trades.auto.sells c.requires.work, c.loop-i.auto.pairs, c.trades.auto.pairs) in
     room c.loop-i.pairs c.loop-i.listed _ _ _ c.loop-i.invariant.0 fits
@@ -37,13 +37,13 @@ add-pairs-more-requires g c =
 
 pub loop-i-preserved : goal.loop-i-preserved
 loop-i-preserved g c = (
-  c.add-pairs-more.ensures.within,
-  added (take c.loop-i.listed c.loop-i.pairs) _ _ _ _ c.add-pairs-more.ensures.after
+  c.add_pairs-more.ensures.within,
+  added (take c.loop-i.listed c.loop-i.pairs) _ _ _ _ c.add_pairs-more.ensures.after
       (some_buy c.trades.buys c.trades.sells _ _ c.loop-i-test.true _ _ c.loop-i.invariant.1 c.if-buy-eq0.false),
 )
 
-pub trade-pair-shares-requires : goal.trade-pair-shares-requires
-trade-pair-shares-requires g c =
+pub trade_pair-shares-requires : goal.trade_pair-shares-requires
+trade_pair-shares-requires g c =
     let whole = ended c.loop-i.pairs c.loop-i.listed _ (buys_end c.trades.buys c.trades.sells c.loop-i.i _ _ c.loop-i-test.false c.loop-i.invariant.1) in
     let stand = first_standing (g.R.PairingRule.ahead c.args.rule.now.rule) c.trades.buys c.trades.sells c.loop-i.pairs c.loop-i.listed c.in-Some.k c.loop-i.invariant.0 whole c.in-Some.ensures in
     record { buy = stand.0.0; sell = stand.1.0 }
@@ -58,8 +58,8 @@ pub trades-smaller : goal.trades-smaller
 trades-smaller g c =
     let whole = ended c.loop-i.pairs c.loop-i.listed _ (buys_end c.trades.buys c.trades.sells c.loop-i.i _ _ c.loop-i-test.false c.loop-i.invariant.1) in
     let stand = first_standing (g.R.PairingRule.ahead c.args.rule.now.rule) c.trades.buys c.trades.sells c.loop-i.pairs c.loop-i.listed c.in-Some.k c.loop-i.invariant.0 whole c.in-Some.ensures in
-    let traded = c.trade-pair-shares.ensures in
-    let less : live c.trade-pair-shares.new.buys + live c.trade-pair-shares.new.sells < live c.trades.buys + live c.trades.sells =
+    let traded = c.trade_pair-shares.ensures in
+    let less : live c.trade_pair-shares.new.buys + live c.trade_pair-shares.new.sells < live c.trades.buys + live c.trades.sells =
     omega (arith, fewer c.trades.buys c.trades.sells _ stand.0 stand.1 _ traded.shares, ap live traded.bought, ap live traded.sold) in
     less
 
@@ -74,8 +74,8 @@ trades-preserved g c =
     let whole = ended c.loop-i.pairs c.loop-i.listed _ (buys_end c.trades.buys c.trades.sells c.loop-i.i _ _ c.loop-i-test.false c.loop-i.invariant.1) in
     let stand = first_standing (g.R.PairingRule.ahead c.args.rule.now.rule) c.trades.buys c.trades.sells c.loop-i.pairs c.loop-i.listed c.in-Some.k c.loop-i.invariant.0 whole c.in-Some.ensures in
     let unbeaten = first_unbeaten ahead bs ss c.loop-i.pairs c.loop-i.listed c.in-Some.k c.loop-i.invariant.0 whole c.in-Some.ensures in
-    let n = c.trade-pair-shares.result in
-    let traded = c.trade-pair-shares.ensures in
+    let n = c.trade_pair-shares.result in
+    let traded = c.trade_pair-shares.ensures in
     let inside = bounds-fills-count g c in
     let sums = still_sums bs ss p stand.0 stand.1 n traded.shares in
     let more = shares_more c.trades.fills c.trades.count (record { pair = p.pair; shares = n }) inside in (
@@ -88,7 +88,7 @@ trades-preserved g c =
       λ rest greedy.
           subst (Greedy before (left_of c.args.buys.now) (left_of c.args.sells.now)) (push_mapped trade_of c.trades.fills c.trades.count (record { pair = p.pair; shares = n }) rest inside)
           (inv.6 _ (greedy_more bs ss inv.0 inv.1 p stand.0 stand.1 ahead c.args.buys.now c.args.sells.now inv.2 unbeaten n traded.shares rest
-          (subst (λ l. Greedy before (left_of l) (left_of (given_up ss p.sell n)) rest) traded.bought (subst (λ l. Greedy before (left_of c.trade-pair-shares.new.buys) (left_of l) rest) traded.sold greedy)))),
+          (subst (λ l. Greedy before (left_of l) (left_of (given_up ss p.sell n)) rest) traded.bought (subst (λ l. Greedy before (left_of c.trade_pair-shares.new.buys) (left_of l) rest) traded.sold greedy)))),
       omega (arith, inv.7, more, sums.0, ap all_left traded.bought),
       omega (arith, inv.8, more, sums.1, ap all_left traded.sold),
       all_more (NamesFound c.args.buys.now c.args.sells.now) c.trades.fills c.trades.count (record { pair = p.pair; shares = n }) inside inv.9
@@ -98,7 +98,7 @@ trades-preserved g c =
 pub returns-then-more-listed : goal.returns-then-more-listed
 returns-then-more-listed g c =
     let before = by_name (g.R.PairingRule.ahead c.args.rule.now.rule) c.args.buys.now c.args.sells.now in
-    let spent = no_pair_with (get_or c.trades.buys c.loop-i.i vacant) c.loop-i.i c.trades.sells (omega (arith, c.if-more-listed.true, c.add-pairs-more.ensures.count)) in
+    let spent = no_pair_with (get_or c.trades.buys c.loop-i.i vacant) c.loop-i.i c.trades.sells (omega (arith, c.if-more-listed.true, c.add_pairs-more.ensures.count)) in
     record {
       within = c.trades.invariant.4;
       greedy = subst (Greedy before (left_of c.args.buys.now) (left_of c.args.sells.now)) (append-nil _) (c.trades.invariant.6 [] (inr spent));

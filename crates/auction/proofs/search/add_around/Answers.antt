@@ -11,9 +11,9 @@ returns g c =
     let opens = g.S.PriceSet.holds c.args.prices.now in
     let R = twice c.args.reference in
     let orders = listed c.args.orders.now in
-    let below : c.at-or-below-below.result ≡ greatest_to opens c.args.cut = below_is opens _ _ c.at-or-below-below.ensures in
-    let above = c.least-above-above.ensures in
+    let below : c.at_or_below-below.result ≡ greatest_to opens c.args.cut = below_is opens _ _ c.at_or_below-below.ensures in
+    let above = c.least_above-above.ensures in
     record {
-      count = two_count R orders opens c.args.cut _ _ below above _ _ _ c.add-point-count.ensures.count c.add-point.ensures.count;
-      after = two_listed R orders opens c.args.cut _ _ below above _ _ _ c.add-point-count.ensures.after c.add-point.ensures.after;
+      count = two_count R orders opens c.args.cut _ _ below above _ _ _ c.add_point-count.ensures.count c.add_point.ensures.count;
+      after = two_listed R orders opens c.args.cut _ _ below above _ _ _ c.add_point-count.ensures.after c.add_point.ensures.after;
     }

@@ -10,5 +10,5 @@ returns c =
     let orders = listed c.args.orders.now in
     record {
       count = one_count R orders c.args.price c.args.count (search rules);
-      after = one_listed R orders c.args.price c.args.count c.args.points.now c.price-point.result (search rules) (search rules) c.price-point.ensures;
+      after = one_listed R orders c.args.price c.args.count c.args.points.now c.price_point.result (search rules) (search rules) c.price_point.ensures;
     }

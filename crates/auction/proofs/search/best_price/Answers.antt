@@ -12,9 +12,9 @@ returns-in-Some g c =
     let ranged = g.met.S.PriceSet.ranged c.args.prices.now in
     let R = twice c.args.reference in
     let orders = listed c.args.orders.now in
-    let n = c.list-candidates-count.result in
+    let n = c.list_candidates-count.result in
     let whole : n - 0 ≡ n = omega arith in
-    let tried = ap (λ k. take k c.list-candidates-count.new.points) whole ∙ c.list-candidates-count.ensures.after in
+    let tried = ap (λ k. take k c.list_candidates-count.new.points) whole ∙ c.list_candidates-count.ensures.after in
     let s : Strikes opens R orders (Some _) = struck opens R orders ranged _ c.in-Some.i _ tried c.in-Some.ensures in
     record { value = same_strike opens R orders _ _ s (best_strikes opens R orders ranged); meaning = s; trades = trades_if_any opens R orders (Some _) s; order_free = order_free opens R orders (Some _) s }
 
@@ -24,8 +24,8 @@ returns-in-None g c =
     let ranged = g.met.S.PriceSet.ranged c.args.prices.now in
     let R = twice c.args.reference in
     let orders = listed c.args.orders.now in
-    let n = c.list-candidates-count.result in
+    let n = c.list_candidates-count.result in
     let whole : n - 0 ≡ n = omega arith in
-    let tried = ap (λ k. take k c.list-candidates-count.new.points) whole ∙ c.list-candidates-count.ensures.after in
+    let tried = ap (λ k. take k c.list_candidates-count.new.points) whole ∙ c.list_candidates-count.ensures.after in
     let s : Strikes opens R orders None = unstruck opens R orders ranged _ tried c.in-None.ensures in
     record { value = same_strike opens R orders _ _ s (best_strikes opens R orders ranged); meaning = s; trades = trades_if_any opens R orders None s; order_free = order_free opens R orders None s }

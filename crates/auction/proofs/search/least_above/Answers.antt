@@ -7,7 +7,7 @@ pub returns-in-Some : goal.returns-in-Some
 returns-in-Some g c =
     let opens = g.S.PriceSet.holds c.args.prices.now in
     let from : c.in-Some.from ≡ c.args.cut + 1 = search rules in
-    above_is opens (g.met.S.PriceSet.ranged c.args.prices.now) _ _ c.at-or-above.ensures ∙ ap (least_from opens) from
+    above_is opens (g.met.S.PriceSet.ranged c.args.prices.now) _ _ c.at_or_above.ensures ∙ ap (least_from opens) from
 
 pub returns-in-None : goal.returns-in-None
 returns-in-None g c =

@@ -9,13 +9,13 @@ use Rattle.auction.proofs.search.list_candidates.Goals as goal
 pub loop-order-init : goal.loop-order-init
 loop-order-init g c = (
   search rules,
-  start _ _ _ _ _ _ _ (ap (λ R. R / 2) c.doubled.ensures.value) c.add-around-count.ensures.count c.add-around-count.ensures.after,
+  start _ _ _ _ _ _ _ (ap (λ R. R / 2) c.doubled.ensures.value) c.add_around-count.ensures.count c.add_around-count.ensures.after,
 )
 
 pub loop-order-preserved : goal.loop-order-preserved
 loop-order-preserved g c = (
   search rules,
-  more _ _ _ _ _ _ _ _ _ _ _ c.loop-order-test.true c.cut-of.ensures c.loop-order.invariant.1 c.add-around-count-in-loop-order.ensures.count c.add-around-count-in-loop-order.ensures.after,
+  more _ _ _ _ _ _ _ _ _ _ _ c.loop-order-test.true c.cut_of.ensures c.loop-order.invariant.1 c.add_around-count-in-loop-order.ensures.count c.add_around-count-in-loop-order.ensures.after,
 )
 
 pub returns : goal.returns
@@ -24,8 +24,8 @@ returns g c =
     let R = twice c.args.reference in
     let orders = listed c.args.orders.now in
     record {
-      few = omega (arith, c.loop-order.invariant.1.few, c.as-slice-order-items.ensures.few);
+      few = omega (arith, c.loop-order.invariant.1.few, c.as_slice-order-items.ensures.few);
       after =
-          all R orders opens c.as-slice-order-items.result.now c.loop-order.points c.loop-order.count c.loop-order.order-index c.loop-order-test.false c.loop-order.invariant.1
-          ∙ ap (λ l. flat_map (around opens R orders) (cuts R l)) c.as-slice-order-items.ensures.value;
+          all R orders opens c.as_slice-order-items.result.now c.loop-order.points c.loop-order.count c.loop-order.order-index c.loop-order-test.false c.loop-order.invariant.1
+          ∙ ap (λ l. flat_map (around opens R orders) (cuts R l)) c.as_slice-order-items.ensures.value;
     }

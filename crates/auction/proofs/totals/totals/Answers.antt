@@ -5,5 +5,5 @@ use Rattle.auction.proofs.totals.totals.Goals as goal
 pub returns : goal.returns
 returns c = record {
   monotone = monotone c.args.price (listed c.args.orders.now);
-  value = λ i. (c.sum-at-sums.ensures.buys i, c.sum-at-sums.ensures.sells i);
+  value = λ i. (c.sum_at-sums.ensures.buys i, c.sum_at-sums.ensures.sells i);
 }

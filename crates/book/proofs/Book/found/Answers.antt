@@ -16,16 +16,16 @@ loop-order-init g c = (omega arith, c.new-found.ensures.size, c.new-found.ensure
 pub loop-order-preserved : goal.loop-order-preserved
 loop-order-preserved g c =
     let one : Order → FoundOrder = λ o. found o (standing (g.G.PriceSet.holds c.args.venue.now.grid) (twice c.args.pegs) o) in
-    let orders = c.as-slice-order-items.result.now in
+    let orders = c.as_slice-order-items.result.now in
     let i = c.loop-order.order-index in
     let inv = c.loop-order.invariant in
-    let made = c.new.ensures ∙ ap (found (get_or orders i blank)) c.standing-price-standing.ensures.value in (
+    let made = c.new.ensures ∙ ap (found (get_or orders i blank)) c.standing_price-standing.ensures.value in (
       omega arith,
-      size_more one orders i _ _ inv.1 c.push.ensures.answer c.as-slice-order-items.ensures.few c.loop-order-test.true _ c.push.ensures.size,
-      listed_more one orders i _ _ inv.1 c.push.ensures.answer c.as-slice-order-items.ensures.few c.loop-order-test.true blank _ _ _ inv.2 made c.push.ensures.after,
+      size_more one orders i _ _ inv.1 c.push.ensures.answer c.as_slice-order-items.ensures.few c.loop-order-test.true _ c.push.ensures.size,
+      listed_more one orders i _ _ inv.1 c.push.ensures.answer c.as_slice-order-items.ensures.few c.loop-order-test.true blank _ _ _ inv.2 made c.push.ensures.after,
     )
 
 pub returns : goal.returns
 returns g c =
     c.loop-order.invariant.2
-    ∙ ap (found_orders (g.G.PriceSet.holds c.args.venue.now.grid) (twice c.args.pegs)) (take_all _ _ c.loop-order-test.false ∙ c.as-slice-order-items.ensures.value)
+    ∙ ap (found_orders (g.G.PriceSet.holds c.args.venue.now.grid) (twice c.args.pegs)) (take_all _ _ c.loop-order-test.false ∙ c.as_slice-order-items.ensures.value)

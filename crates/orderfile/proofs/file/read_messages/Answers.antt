@@ -6,15 +6,15 @@ use Rattle.orderfile.specs.Reading.{read_message}
 use Rattle.orderfile.proofs.Cutting.{one_more, stuck}
 use Rattle.orderfile.proofs.file.read_messages.Goals as goal
 
-pub returns-in-err-body : goal.returns-in-err-body
-returns-in-err-body c =
-    let p = err_from_is_err_and c.from-residual.result c.from-residual.ensures.1 in
-    rw (p.1, p.2) (λ _. stuck told read_message _ _ c.args.count _ _ c.loop-rest.invariant.1 (search rules) _ (sym c.in-err-body.ensures))
+pub returns-in_err-body : goal.returns-in_err-body
+returns-in_err-body c =
+    let p = err_from_is_err_and c.from_residual.result c.from_residual.ensures.1 in
+    rw (p.1, p.2) (λ _. stuck told read_message _ _ c.args.count _ _ c.loop-rest.invariant.1 (search rules) _ (sym c.in_err-body.ensures))
 
 pub loop-rest-preserved : goal.loop-rest-preserved
 loop-rest-preserved c =
-    let pushed = chosen _ _ _ _ c.push.ensures.items (ap is_ok c.in-ok-push.was) in
-    let longer = chosen _ _ _ _ c.push.ensures.len (ap is_ok c.in-ok-push.was) in (
+    let pushed = chosen _ _ _ _ c.push.ensures.items (ap is_ok c.in_ok-push.was) in
+    let longer = chosen _ _ _ _ c.push.ensures.len (ap is_ok c.in_ok-push.was) in (
       search rules,
-      one_more told read_message _ _ c.args.count _ _ c.loop-rest.invariant.1 (search rules) _ _ _ _ _ (sym c.in-ok-body.ensures) pushed longer c.read_message.ensures,
+      one_more told read_message _ _ c.args.count _ _ c.loop-rest.invariant.1 (search rules) _ _ _ _ _ (sym c.in_ok-body.ensures) pushed longer c.read_message.ensures,
     )

@@ -6,5 +6,5 @@ use Rattle.reference.proofs.Reference.of.Goals as goal
 pub returns : goal.returns
 returns c =
     let orders = c.args.orders.now in
-    let value : c.midpoint.result ≡ reference_of orders c.args.last-sale c.args.previous-close = search rules in
-    record { value = value; steady = λ o behind. steady orders c.args.last-sale c.args.previous-close o behind ∙ sym value }
+    let value : c.midpoint.result ≡ reference_of orders c.args.last_sale c.args.previous_close = search rules in
+    record { value = value; steady = λ o behind. steady orders c.args.last_sale c.args.previous_close o behind ∙ sym value }

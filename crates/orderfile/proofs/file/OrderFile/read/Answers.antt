@@ -5,26 +5,26 @@ use Rattle.orderfile.proofs.Joining.{joins}
 use Rattle.orderfile.proofs.Lawful.{lawful}
 use Rattle.orderfile.proofs.file.OrderFile.read.Goals as goal
 
-pub returns-in-err-head : goal.returns-in-err-head
-returns-in-err-head c =
-    let value : UnlessMemory contents c.from-residual.result (read_file c.args.file.now) = search rules in
-    record { value = value; law = lawful c.args.file.now (λ i. (c.type-inv.file i).fits) c.from-residual.result value }
+pub returns-in_err-head : goal.returns-in_err-head
+returns-in_err-head c =
+    let value : UnlessMemory contents c.from_residual.result (read_file c.args.file.now) = search rules in
+    record { value = value; law = lawful c.args.file.now (λ i. (c.type_inv.file i).fits) c.from_residual.result value }
 
-pub returns-in-err-messages : goal.returns-in-err-messages
-returns-in-err-messages c =
-    let head = c.in-ok-head.ensures in
-    let refused = c.in-err-messages.ensures in
-    let p = err_from_is_err_and c.from-residual-in-err-messages.result c.from-residual-in-err-messages.ensures.1 in
-    let value : UnlessMemory contents c.from-residual-in-err-messages.result (read_file c.args.file.now) =
+pub returns-in_err-messages : goal.returns-in_err-messages
+returns-in_err-messages c =
+    let head = c.in_ok-head.ensures in
+    let refused = c.in_err-messages.ensures in
+    let p = err_from_is_err_and c.from_residual-in_err-messages.result c.from_residual-in_err-messages.ensures.1 in
+    let value : UnlessMemory contents c.from_residual-in_err-messages.result (read_file c.args.file.now) =
     rw (p.1, p.2) (λ other. joins c.args.file.now _ (Err _) (sym head) (refused other))
     in
-    record { value = value; law = lawful c.args.file.now (λ i. (c.type-inv.file i).fits) c.from-residual-in-err-messages.result value }
+    record { value = value; law = lawful c.args.file.now (λ i. (c.type_inv.file i).fits) c.from_residual-in_err-messages.result value }
 
 pub returns : goal.returns
 returns c =
-    let head = c.in-ok-head.ensures in
-    let value = joins c.args.file.now _ (Ok _) (sym head) c.in-ok-messages.ensures in
+    let head = c.in_ok-head.ensures in
+    let value = joins c.args.file.now _ (Ok _) (sym head) c.in_ok-messages.ensures in
     record {
       value = value;
-      law = lawful c.args.file.now (λ i. (c.type-inv.file i).fits) (Ok (record { head = c.in-ok-head.head; messages = c.in-ok-messages.messages })) value;
+      law = lawful c.args.file.now (λ i. (c.type_inv.file i).fits) (Ok (record { head = c.in_ok-head.head; messages = c.in_ok-messages.messages })) value;
     }
