@@ -10,8 +10,8 @@ loop-i-init g c =
 
 pub loop-i-preserved : goal.loop-i-preserved
 loop-i-preserved g c =
-    turn_more (g.G.PriceSet.holds c.args.venue.now.grid) c.args.previous_close c.args.turns.now c.loop-i.turns c.loop-i.book c.request_answer.new.self c.loop-i.i no_turn _
-    c.loop-i.invariant c.loop-i-test.true refl c.request_answer.ensures.answer c.request_answer.ensures.after
+    turn_more (g.G.PriceSet.holds c.args.venue.now.grid) c.args.previous_close c.args.turns.now c.loop-i.turns c.loop-i.book c.request-answer.new.self c.loop-i.i no_turn _
+    c.loop-i.invariant c.loop-i-test.true refl c.request-answer.ensures.answer c.request-answer.ensures.after
 
 pub returns : goal.returns
 returns g c =

@@ -11,7 +11,7 @@ pub loop-i-preserved : goal.loop-i-preserved
 loop-i-preserved g c =
     let inv = c.loop-i.invariant in
     let more = line_more c.args.self.now.messages.now c.loop-i.i _ _ inv.0 inv.1 _ c.loop-i-test.true c.in-Some.answer _ c.in-Some.ensures in
-    (_, more, λ plain. grown {h = c.write.new.self} (inv.2 plain) (λ p. c.in_ok-write.ensures.shows p refl) refl)
+    (_, more, λ plain. grown {h = c.write.new.self} (inv.2 plain) (λ p. c.in_ok-write.ensures.writes p refl) refl)
 
 pub returns-in_default-clause-writes : goal.returns-in_default-clause-writes
 returns-in_default-clause-writes g c = λ plain _.

@@ -20,7 +20,7 @@ loop-order-preserved g c =
     let self = c.args.self.now in
     let inv = c.loop-order.invariant in
     let more = row_more (g.G.PriceSet.holds self.grid.now) (twice self.pegs) self.orders.now c.loop-order.order-index _ _ inv.1 blank c.loop-order-test.true c.standing_price-price.result c.if-order-eq0.false c.standing_price-price.ensures.value in
-    (_, more, λ plain. grown {h = c.write.new.self} (inv.2 plain) (λ p. c.in_ok-write.ensures.shows p refl) refl)
+    (_, more, λ plain. grown {h = c.write.new.self} (inv.2 plain) (λ p. c.in_ok-write.ensures.writes p refl) refl)
 
 pub returns-clause-writes : goal.returns-clause-writes
 returns-clause-writes g c = λ plain _.
