@@ -112,17 +112,18 @@ pub fn totals_are<G: Grid, R: PairingRule>(
     Ok(())
 }
 
-// Asks, and sees to it that a refusal changes nothing.
+// Asks, and sees to it that a refusal changes nothing. The place, of a row or a phase, is told where it fails.
 pub fn says<G: Grid, R: PairingRule>(
     rt: &impl Abort,
     venue: &Venue<G, R>,
     book: &mut Book,
     request: Request,
     expected: Said,
+    place: usize,
 ) -> Result<(), Fail> {
     let before = *book;
     let said = ask(venue, book, request);
-    assert_eq!(rt; said, expected);
+    assert_eq!(rt; said, expected, "at {place}");
     match said {
         Yes(_) => Ok(()),
         No(_) => same_book(rt, &before, book),
@@ -138,7 +139,7 @@ pub fn in_turn<G: Grid, R: PairingRule>(
 ) -> Result<(), Fail> {
     for (place, row) in rows.iter().enumerate() {
         let (request, expected) = *row;
-        says(rt, venue, book, request, expected).note(format_args!("row {place}"))?;
+        says(rt, venue, book, request, expected, place)?;
     }
     Ok(())
 }
@@ -153,8 +154,8 @@ pub fn by_phase(
 ) -> Result<(), Fail> {
     for i in 0..4 {
         let mut book = in_phase(book, OPEN_PHASES[i]);
-        says(rt, &VENUE, &mut book, request, expected[i]).note(format_args!("phase {i}"))?;
+        says(rt, &VENUE, &mut book, request, expected[i], i)?;
     }
     let mut book = in_phase(book, Phase::Closed);
-    says(rt, &VENUE, &mut book, request, No(2)).note("closed")
+    says(rt, &VENUE, &mut book, request, No(2), 4)
 }

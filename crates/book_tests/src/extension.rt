@@ -24,9 +24,11 @@ fn an_order_faces_the_advertised_side(rt: HostRuntime) -> Result<(), Fail> {
         (None, Side::Buy, No(8)),
         (None, Side::Sell, No(8)),
     ];
-    for (advertised, side, said) in CASES {
+    for (place, case) in CASES.iter().enumerate() {
+        let (advertised, side, said) = *case;
         let mut book = extended_book(extension(advertised, 300))?;
-        says(&rt, &VENUE, &mut book, enter(limit(side, 100_000, 1)), said)?;
+        let request = enter(limit(side, 100_000, 1));
+        says(&rt, &VENUE, &mut book, request, said, place)?;
     }
     Ok(())
 }
@@ -42,15 +44,11 @@ fn an_order_is_no_larger_than_what_remains(rt: HostRuntime) -> Result<(), Fail> 
         (300, 301, No(9)),
         (5_000_000_000, 9_999_999, Yes(1)),
     ];
-    for (remains, volume, said) in CASES {
+    for (place, case) in CASES.iter().enumerate() {
+        let (remains, volume, said) = *case;
         let mut book = extended_book(extension(Some(Side::Buy), remains))?;
-        says(
-            &rt,
-            &VENUE,
-            &mut book,
-            enter(limit(Side::Sell, 100_000, volume)),
-            said,
-        )?;
+        let request = enter(limit(Side::Sell, 100_000, volume));
+        says(&rt, &VENUE, &mut book, request, said, place)?;
     }
     Ok(())
 }
@@ -87,7 +85,8 @@ fn a_limit_is_in_the_fail_band(rt: HostRuntime) -> Result<(), Fail> {
         (8_000, 9_200, Yes(1)),
         (8_000, 9_300, No(10)),
     ];
-    for (price, bid, said) in CASES {
+    for (place, case) in CASES.iter().enumerate() {
+        let (price, bid, said) = *case;
         let state = State::Extension {
             reference: Reference::of_sales(None, price),
             pegs: Reference::of_sales(None, 50_000),
@@ -95,13 +94,8 @@ fn a_limit_is_in_the_fail_band(rt: HostRuntime) -> Result<(), Fail> {
             remains: 300,
         };
         let mut book = extended_book(state)?;
-        says(
-            &rt,
-            &VENUE,
-            &mut book,
-            enter(limit(Side::Buy, bid, 100)),
-            said,
-        )?;
+        let request = enter(limit(Side::Buy, bid, 100));
+        says(&rt, &VENUE, &mut book, request, said, place)?;
     }
     Ok(())
 }

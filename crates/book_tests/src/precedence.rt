@@ -74,8 +74,9 @@ fn in_the_extension_the_side_is_tested_then_the_volume_then_the_band(
         (limit(Side::Buy, 110_100, 301), No(9)),
         (limit(Side::Buy, 110_100, 300), No(10)),
     ];
-    for (entry, said) in cases {
-        says(&rt, &VENUE, &mut book, enter(entry), said)?;
+    for (place, case) in cases.iter().enumerate() {
+        let (entry, said) = *case;
+        says(&rt, &VENUE, &mut book, enter(entry), said, place)?;
     }
     Ok(())
 }
