@@ -1,5 +1,5 @@
 -- From the greedy trades of the eligible orders to the allocation.
-use Rattle.std.proofs.Common.{◌≡◌, ℕ, ◌+◌, ◌*◌, ◌≤◌, min, Bool, true, List, [], ◌∷◌, length, take, drop, sym, refl, ap, ◌∙◌, subst, inl, inr, arith}
+use Rattle.std.proofs.Common.{◌≡◌, ℕ, ◌+◌, ◌*◌, ◌≤◌, min, Bool, true, List, [], ◌∷◌, length, drop, sym, refl, ap, ◌∙◌, subst, inl, inr, arith}
 use Rattle.std.proofs.lemmas.Bool.{both_ways, cases_eq}
 use Rattle.std.specs.List.{AllByRecursion}
 use Rattle.ranking.specs.Ranks.{Ranks}
@@ -8,7 +8,7 @@ use Rattle.orders.specs.declared.Side.TheVariants.{Buy, Sell}
 use Rattle.orders.specs.declared.found.FoundOrder.{FoundOrder}
 use Rattle.priority.specs.Pairs.{pair_name}
 use Rattle.priority.specs.declared.Pair.{Pair}
-use Rattle.allocation.specs.Allocation.{distinct, Refused, rule_at, trades_in, Allocated}
+use Rattle.allocation.specs.Allocation.{distinct, Refused, rule_at, trades_in, Allocated, NameOrders}
 use Rattle.allocation.specs.Holdings.{held, left_of, all_left}
 use Rattle.allocation.specs.Naming.{Apart, order_for, pair_for, by_name, NamesFound}
 use Rattle.allocation.specs.Trades.{all_shares, Greedy}
@@ -64,8 +64,8 @@ module _ (p : ℕ) (orders : List FoundOrder) (bs ss : List Holding) (buys : bs 
 
   pub allocated : (ahead : Pair → Pair → Bool) → Ranks pair_name ahead → (before fills : List Fill) (count : ℕ) → count ≤ length fills
       → Greedy (by_name ahead bs ss) (left_of bs) (left_of ss) (trades_in count fills)
-      → all_shares (trades_in count fills) ≡ min (all_left bs) (all_left ss) → AllByRecursion (NamesFound bs ss) (take count fills) → drop count fills ≡ drop count before → Allocated ahead p orders before fills count
-  allocated ahead law before fills count few greedy all found others =
+      → all_shares (trades_in count fills) ≡ min (all_left bs) (all_left ss) → drop count fills ≡ drop count before → Allocated ahead p orders before fills count
+  allocated ahead law before fills count few greedy all others =
       let ts = trades_in count fills in
       let ranks = name_law ahead law (held Buy p orders) (held Sell p orders) in
       let greedy' = subst (λ b. Greedy (by_name ahead b (held Sell p orders)) (left_of b) (left_of (held Sell p orders)) ts) buys (subst (λ s. Greedy (by_name ahead bs s) (left_of bs) (left_of s) ts) sells greedy) in
@@ -76,7 +76,6 @@ module _ (p : ℕ) (orders : List FoundOrder) (bs ss : List Holding) (buys : bs 
         settled = settled;
         alone = λ us s. alone (rule_at ahead p orders) ranks _ _ us ts s settled;
         in_full = all ∙ (λ i. min (bought i) (sold i));
-        found = subst (λ b. AllByRecursion (NamesFound b (held Sell p orders)) (take count fills)) buys (subst (λ s. AllByRecursion (NamesFound bs s) (take count fills)) sells found);
         others = others;
       }
     where
@@ -85,3 +84,7 @@ module _ (p : ℕ) (orders : List FoundOrder) (bs ss : List Holding) (buys : bs 
 
       sold : all_left ss ≡ total Sell p orders
       sold = ap all_left sells ∙ brought Sell p orders
+
+  -- fills that have the orders of the lists have the eligible orders
+  pub names_orders : (fills : List Fill) → AllByRecursion (NamesFound bs ss) fills → NameOrders p orders fills
+  names_orders fills found = subst (λ b. AllByRecursion (NamesFound b (held Sell p orders)) fills) buys (subst (λ s. AllByRecursion (NamesFound bs s) fills) sells found)

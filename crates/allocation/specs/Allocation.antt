@@ -1,5 +1,5 @@
 -- What an allocation is: the one list of trades that nobody can object to.
-use Rattle.std.specs.Prelude.{◌≡◌, ℕ, ◌<◌, ◌≤◌, Bool, true, false, not, ◌&&◌, ◌||◌, ◌⊎◌, List, [], ◌∷◌, map, length, take, drop, Option, MatchOption, ◌==◌}
+use Rattle.std.specs.Prelude.{◌≡◌, ℕ, ◌<◌, ◌≤◌, Bool, true, false, not, ◌&&◌, ◌||◌, ◌⊎◌, List, [], ◌∷◌, map, length, take, drop, ◌==◌}
 use Rattle.std.specs.List.{AllByRecursion}
 use Rattle.auction.specs.Totals.{volume}
 use Rattle.orders.specs.declared.Side.TheVariants.{Buy, Sell}
@@ -45,14 +45,9 @@ pub record Allocated (ahead : Pair → Pair → Bool) (p : ℕ) (orders : List F
   pub settled : Settled (rule_at ahead p orders) (buys_at p orders) (sells_at p orders) (trades_in count fills)
   pub alone : (ts : List Trade) → Settled (rule_at ahead p orders) (buys_at p orders) (sells_at p orders) ts → ts ≡ trades_in count fills
   pub in_full : all_shares (trades_in count fills) ≡ volume p orders
-  -- each fill names the eligible orders as the call found them
-  pub found : AllByRecursion (NamesFound (held Buy p orders) (held Sell p orders)) (take count fills)
   -- the other places hold what they held
   pub others : drop count fills ≡ drop count before
 
--- refused exactly where the orders or the lent memory do not serve, and then nothing is changed; else an allocation
-abbrev pub Answers : (Pair → Pair → Bool) → ℕ → List FoundOrder → List LivePair → List LivePair → List Fill → List Fill → Option ℕ → Type 0
-Answers ahead p orders pairs pairs_after fills fills_after r =
-    MatchOption r
-    (Refused orders pairs fills × (pairs_after ≡ pairs) × (fills_after ≡ fills))
-    (λ count. (Refused orders pairs fills → ⊥) × Allocated ahead p orders fills fills_after count)
+-- each of the fills has the eligible orders as the call found them
+abbrev pub NameOrders : ℕ → List FoundOrder → List Fill → Type 0
+NameOrders p orders fills = AllByRecursion (NamesFound (held Buy p orders) (held Sell p orders)) fills

@@ -1,9 +1,9 @@
 // Who trades with whom at the close.
 #![tactic(auto)]
 
-ghost use Rattle.std.specs.Prelude.{◌≡◌};
+ghost use Rattle.std.specs.Prelude.{◌≡◌, take, MatchOption, IfSome};
 ghost use Rattle.auction.specs.Orders.{listed};
-ghost use Rattle.allocation.specs.Allocation.{named, distinct, Answers};
+ghost use Rattle.allocation.specs.Allocation.{named, distinct, Refused, Allocated, NameOrders};
 
 use auction::found::FoundOrders;
 use orders::found::FoundOrder;
@@ -67,7 +67,9 @@ pub fn allocate<R: PairingRule + Copy>(
     pairs: &mut [LivePair],
     fills: &mut [Fill],
 ) -> Option<usize>
-    ensures answer { Answers (R.PairingRule.ahead rule.now) price (listed orders.now) pairs.old pairs.new fills.old fills.new result }
+    ensures answer { MatchOption result (Refused (listed orders.now) pairs.old fills.old × (pairs.new ≡ pairs.old) × (fills.new ≡ fills.old)) (Allocated (R.PairingRule.ahead rule.now) price (listed orders.now) fills.old fills.new) }
+    ensures served { IfSome result (λ _. Refused (listed orders.now) pairs.old fills.old → ⊥) }
+    ensures found { IfSome result (λ count. NameOrders price (listed orders.now) (take count fills.new)) }
 {
     if pairs.len() < PAIRS || fills.len() < FILLS || !are_distinct(orders.as_slice()) {
         return None;

@@ -21,14 +21,8 @@ message_number BadReference = 20
 message_number (Book refusal) = refusal_number refusal
 
 abbrev pub message_layer : MessageFault → Layer
-message_layer Empty = layer.Message
-message_layer UnknownLetter = layer.Message
-message_layer WrongLength = layer.Message
-message_layer BadKind = layer.Message
-message_layer BadSide = layer.Message
-message_layer BadFlag = layer.Message
-message_layer BadReference = layer.Message
 message_layer (Book refusal) = layer.Book
+message_layer fault = layer.Message
 
 -- 18 where the head, the bodies or the size are wrong; want of memory is no refusal and has no number
 abbrev pub file_number : FileFault → Option ℕ

@@ -1,8 +1,7 @@
 -- The two pairing rules, each an order of pairs by one key after another.
 use Rattle.std.specs.Prelude.{ℕ, ◌+◌, ◌^◌, Bool, true, false, cond}
-use Rattle.orders.specs.Kinds.{is_market}
 use Rattle.orders.specs.declared.found.FoundOrder.{FoundOrder}
-use Rattle.priority.specs.Pairs.{same_broker}
+use Rattle.priority.specs.Pairs.{is_market, same_broker}
 use Rattle.priority.specs.declared.Pair.{Pair}
 use Rattle.ranking.specs.Keys.{smaller, larger, level}
 

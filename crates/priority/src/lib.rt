@@ -3,11 +3,12 @@
 
 ghost use Rattle.std.specs.Prelude.{◌≡◌, ℕ, Bool};
 ghost use Rattle.priority.specs.declared.Pair.{Pair};
-ghost use Rattle.priority.specs.Pairs.{pair_name, same_broker};
+ghost use Rattle.priority.specs.Pairs.{pair_name, is_market, same_broker};
 ghost use Rattle.priority.specs.Rules.{step, bid_key, offer_key, by_time, before_by_steps, before_by_price};
 ghost use Rattle.ranking.specs.Ranks.{Ranks};
 ghost use Rattle.priority.specs.Lawful.{steps_rank, price_rank};
 
+use orders::Kind;
 use orders::found::FoundOrder;
 use ranking::Ranking;
 
@@ -42,6 +43,12 @@ pub struct Ranked<R> {
     pub rule: R,
 }
 
+fn market(kind: Kind) -> bool
+    ensures { result ≡ is_market kind }
+{
+    matches!(kind, Kind::Market)
+}
+
 impl Pair {
     // Equal brokers, and not 0.
     fn has_same_broker(&self) -> bool
@@ -53,7 +60,7 @@ impl Pair {
     fn step(&self) -> u8
         ensures { result ≡ step self.now }
     {
-        let first = match (self.buy.kind.is_market(), self.sell.kind.is_market()) {
+        let first = match (market(self.buy.kind), market(self.sell.kind)) {
             (true, true) => 1,
             (true, false) | (false, true) => 3,
             (false, false) => 5,
@@ -69,7 +76,7 @@ impl Pair {
     fn bid(&self) -> u64
         ensures { result ≡ bid_key self.now.buy }
     {
-        if self.buy.kind.is_market() {
+        if market(self.buy.kind) {
             1 << 32
         } else {
             u64::from(self.buy.standing)
@@ -80,7 +87,7 @@ impl Pair {
     fn offer(&self) -> u64
         ensures { result ≡ offer_key self.now.sell }
     {
-        if self.sell.kind.is_market() {
+        if market(self.sell.kind) {
             0
         } else {
             u64::from(self.sell.standing) + 1

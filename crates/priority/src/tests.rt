@@ -1,5 +1,5 @@
 use super::*;
-use orders::{Kind, Side};
+use orders::Side;
 use ranking::first;
 
 fn order(side: Side, kind: Kind, entry: u32, broker: u16, standing: u32) -> FoundOrder {

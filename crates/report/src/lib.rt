@@ -19,6 +19,8 @@ mod tests;
 pub mod text;
 pub mod words;
 
+pub use crate::text::Dollars;
+
 // A line for the head, and one for each message.
 fn accepted(
     heap: Global,

@@ -1,6 +1,5 @@
 // Files, good and damaged, each with its whole text.
-use crate::describe;
-use crate::text::Dollars;
+use crate::{Dollars, describe};
 use std::alloc::Global;
 use std::process::Abort;
 use std::test::Fail;

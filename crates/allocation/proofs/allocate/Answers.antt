@@ -1,7 +1,7 @@
 use Rattle.std.proofs.Common.{◌≡◌, ◌≤◌, true, length, sym, ap, ◌∙◌, arith}
 use Rattle.auction.specs.Orders.{listed}
 use Rattle.allocation.specs.Allocation.{distinct}
-use Rattle.allocation.proofs.Allocating.{not_refused, pairs_fit, fills_fit, buys_apart, sells_apart, allocated}
+use Rattle.allocation.proofs.Allocating.{not_refused, pairs_fit, fills_fit, buys_apart, sells_apart, allocated, names_orders}
 use Rattle.allocation.proofs.Eligible.{both_held}
 use Rattle.allocation.proofs.allocate.Goals as goal
 
@@ -35,9 +35,8 @@ returns g c =
     let all : distinct orders ≡ true = ap distinct (sym c.as_slice.ensures.value) ∙ sym c.if-not-are_distinct.ensures in
     let done = c.trade_all.ensures in
     record {
-      answer = (
-        not_refused orders _ _ c.if-pairs-lt-PAIRS.false c.if-fills-lt-FILLS.false all,
-        allocated c.args.price orders _ _ c.hold-bought.ensures.after c.hold-sold.ensures.after
-            (g.R.PairingRule.ahead c.args.rule.now) (g.met.R.PairingRule.pairs c.args.rule.now) _ _ _ done.within done.greedy done.all done.found done.others,
-      );
+      answer = allocated c.args.price orders _ _ c.hold-bought.ensures.after c.hold-sold.ensures.after
+          (g.R.PairingRule.ahead c.args.rule.now) (g.met.R.PairingRule.pairs c.args.rule.now) _ _ _ done.within done.greedy done.all done.others;
+      served = not_refused orders _ _ c.if-pairs-lt-PAIRS.false c.if-fills-lt-FILLS.false all;
+      found = names_orders c.args.price orders _ _ c.hold-bought.ensures.after c.hold-sold.ensures.after _ done.found;
     }
