@@ -2,7 +2,7 @@
 // has its number and its layer.
 ghost use Rattle.std.specs.Prelude.{◌≡◌};
 ghost use Rattle.orderfile.specs.Faults.{message_number, message_layer, file_number, file_layer};
-ghost use Rattle.orderfile.specs.declared.faults.FileFault.TheVariants.{Message as rises, Memory as runs-out};
+ghost use Rattle.orderfile.specs.declared.faults.FileFault.TheVariants.{Message as rises, Memory as runs_out};
 ghost use Rattle.orderfile.specs.declared.faults.MessageFault.TheVariants.{Book as refuses};
 
 use orders::refusal::Refusal;
@@ -111,7 +111,7 @@ impl From<MessageFault> for FileFault {
 }
 
 impl<T: Drop> From<AllocFailed<T>> for FileFault {
-    ghost from_gives = { λ _ r. r ≡ runs-out };
+    ghost from_gives = { λ _ r. r ≡ runs_out };
 
     fn from(_unplaced: AllocFailed<T>) -> FileFault {
         Self::Memory
