@@ -1,7 +1,7 @@
 // Who trades with whom at the close.
 #![tactic(auto)]
 
-ghost use Rattle.std.specs.Prelude.{◌≡◌, take, MatchOption, IfSome};
+ghost use Rattle.std.specs.Prelude.{◌≡◌, take, MatchOption, IfSome, OnSome};
 ghost use Rattle.auction.specs.Orders.{listed};
 ghost use Rattle.allocation.specs.Allocation.{named, distinct, Refused, Allocated, NameOrders};
 
@@ -68,7 +68,7 @@ pub fn allocate<R: PairingRule + Copy>(
     fills: &mut [Fill],
 ) -> Option<usize>
     ensures answer { MatchOption result (Refused (listed orders.now) pairs.old fills.old × (pairs.new ≡ pairs.old) × (fills.new ≡ fills.old)) (Allocated (R.PairingRule.ahead rule.now) price (listed orders.now) fills.old fills.new) }
-    ensures served { IfSome result (λ _. Refused (listed orders.now) pairs.old fills.old → ⊥) }
+    ensures served { OnSome result (¬ Refused (listed orders.now) pairs.old fills.old) }
     ensures found { IfSome result (λ count. NameOrders price (listed orders.now) (take count fills.new)) }
 {
     if pairs.len() < PAIRS || fills.len() < FILLS || !are_distinct(orders.as_slice()) {

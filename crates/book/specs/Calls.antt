@@ -1,5 +1,5 @@
 -- The calls of the book: the tests of each, its answer, and the book after it.
-use Rattle.std.specs.Prelude.{ℕ, ◌+◌, ◌-◌, Bool, false, cond, not, ◌&&◌, ◌||◌, List, [], ◌∷◌, replicate, Some, None, Ok, Err, Option, Result, ◌==◌, nat_le, nat_lt, slice_index_or}
+use Rattle.std.specs.Prelude.{ℕ, ◌+◌, ◌-◌, Bool, false, cond, not, ◌&&◌, ◌||◌, List, [], ◌∷◌, replicate, Some, None, Ok, Err, Result, ◌==◌, nat_le, nat_lt, slice_index_or}
 use Rattle.auction.specs.Totals.{reaches}
 use Rattle.orders.specs.Kinds.{is_displayed, same_side, more_aggressive}
 use Rattle.orders.specs.Tables.{blank, listed, known, with_order, with_more}
@@ -15,7 +15,6 @@ use Rattle.orders.specs.declared.table.Order.{Order}
 use Rattle.book.specs.Phases.{phase_of, is_closed, admits, amends, cancels, takes, tightens, advances, next_state, wrong_side, too_large, outside_band, offset_by}
 use Rattle.book.specs.Tests.{Tests, first_refusal, answered, changed}
 use Rattle.book.specs.declared.Book.{Book}
-use Rattle.book.specs.declared.State.{State}
 use Rattle.book.specs.declared.State.TheVariants as state
 
 -- The opening

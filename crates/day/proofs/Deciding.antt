@@ -1,5 +1,5 @@
 -- A table of tests in rising number refuses with the least number whose test holds.
-use Rattle.std.proofs.Common.{◌≡◌, ℕ, ◌≤◌, Bool, true, false, cond, List, [], ◌∷◌, Some, None, Option, sym, refl, ap, ◌∙◌, inl, inr, arith}
+use Rattle.std.proofs.Common.{◌≡◌, ℕ, ◌≤◌, Bool, true, false, cond, [], ◌∷◌, Some, None, Option, sym, refl, ap, ◌∙◌, inl, inr, arith}
 use Rattle.orders.specs.Refusals.{refusal_number}
 use Rattle.orders.specs.declared.refusal.Refusal.{Refusal}
 use Rattle.book.specs.Tests.{Tests, first_refusal, answered, Rising}

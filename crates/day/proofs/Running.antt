@@ -8,7 +8,6 @@ use Rattle.orders.specs.declared.refusal.Refusal.{Refusal}
 use Rattle.book.specs.Calls.{recorded}
 use Rattle.book.specs.Tests.{first_refusal, answered, changed}
 use Rattle.book.specs.Views.{references_in, totals_from, notice_from}
-use Rattle.book.specs.declared.Book.{Book}
 use Rattle.book.specs.declared.requests.Answer.{Answer}
 use Rattle.book.specs.declared.requests.Answer.TheVariants.{Entered}
 use Rattle.book.specs.declared.requests.Request.{Request}

@@ -1,28 +1,26 @@
 -- The book that shows the account, and how one call on it follows one request in the account.
-use Rattle.std.proofs.Common.{◌≡◌, ℕ, zero, suc, ◌+◌, ◌-◌, ◌<◌, ◌≤◌, min, Bool, true, false, cond, not, leb, List, [], ◌∷◌, ◌++◌, map, length, get_or, set, replicate, Some, None, Ok, Err, Option, Result, sym, refl, ap, ◌∙◌, arith}
+use Rattle.std.proofs.Common.{◌≡◌, ℕ, zero, suc, ◌+◌, ◌-◌, ◌<◌, ◌≤◌, min, Bool, true, false, cond, not, leb, List, [], ◌∷◌, ◌++◌, map, length, get_or, set, replicate, Some, None, Option, sym, refl, ap, ◌∙◌, arith}
 use Rattle.std.proofs.lemmas.List.{length-map, length-set, length_push, map-set, set-append_left, take_at}
 use Rattle.std.proofs.lemmas.Bool.{not-false, or_parts, and_parts, leb-true, leb-false, lt-ltb}
 use Rattle.std.proofs.lemmas.Bool.Decides.{nat_tests}
-use Rattle.std.specs.Result.{result_map_both}
 use Rattle.orders.specs.Tables.{blank, listed, known, with_order, with_more}
 use Rattle.orders.specs.declared.Entry.{Entry}
 use Rattle.orders.specs.declared.refusal.Refusal.{Refusal}
 use Rattle.orders.specs.declared.table.Order.{Order}
 use Rattle.orders.specs.declared.table.OrderTable.{OrderTable}
-use Rattle.book.specs.Calls.{recorded, with_left, with_limit, enter_tests, entered, amend_tests, amended, cancel_tests, cancelled, take_tests, taken, advance_tests, advanced}
+use Rattle.book.specs.Calls.{recorded, with_left, with_limit, enter_tests, entered, amend_tests, amended, cancel_tests, cancelled, take_tests, taken, advanced}
 use Rattle.book.specs.Phases.{phase_of, next_state, offset_by}
 use Rattle.book.specs.Requests.{answering, request_answer, request_book}
 use Rattle.book.specs.Tests.{Tests, first_refusal, answered, changed}
 use Rattle.book.specs.declared.Book.{Book}
-use Rattle.book.specs.declared.State.{State}
 use Rattle.book.specs.declared.requests.Answer.{Answer}
 use Rattle.book.specs.declared.requests.Answer.TheVariants as answer
 use Rattle.book.specs.declared.requests.Request.{Request}
 use Rattle.book.specs.declared.requests.Request.TheVariants as request
 use Rattle.day.proofs.Deciding.{none_holds}
-use Rattle.day.specs.Account.{Line, Account, left, order_of, orders, has, no_line, line}
+use Rattle.day.specs.Account.{Line, Account, order_of, orders, has, no_line, line}
 use Rattle.day.specs.Law.{table_of, book_of}
-use Rattle.day.specs.Noting.{tests, new_line, re_entered, with_cancelled, with_taken, accepted, answer_to, noted, answer_noted}
+use Rattle.day.specs.Noting.{tests, new_line, re_entered, with_cancelled, with_taken, accepted, noted, answer_noted}
 
 -- a place of the table shows the line with its number, and a blank where there is none
 shows_at : (ls : List Line) (k i : ℕ) → get_or (map order_of ls ++ replicate k blank) i blank ≡ order_of (get_or ls i no_line)

@@ -1,5 +1,5 @@
 -- Why no displayed buy ever meets a displayed sell.
-use Rattle.std.proofs.Common.{◌≡◌, ℕ, zero, suc, ◌+◌, ◌-◌, ◌<◌, Bool, true, false, not, ◌&&◌, ltb, leb, List, [], ◌∷◌, map, length, get_or, sym, refl, ap, ◌∙◌, arith}
+use Rattle.std.proofs.Common.{◌≡◌, ℕ, zero, suc, ◌<◌, Bool, true, false, not, ◌&&◌, ltb, List, [], ◌∷◌, length, get_or, sym, refl, ap, ◌∙◌, arith}
 use Rattle.std.proofs.lemmas.List.{length-map, get_or-map}
 use Rattle.std.proofs.lemmas.Bool.{and_parts, or_parts, leb-false, ltb-true, lt-ltb}
 use Rattle.orders.specs.Kinds.{is_displayed, same_side}
@@ -10,7 +10,6 @@ use Rattle.orders.specs.declared.Phase.{Phase}
 use Rattle.orders.specs.declared.Phase.TheVariants as phase
 use Rattle.orders.specs.declared.Side.{Side}
 use Rattle.orders.specs.declared.Side.TheVariants.{Buy, Sell}
-use Rattle.orders.specs.declared.table.Order.{Order}
 use Rattle.auction.specs.Totals.{reaches}
 use Rattle.book.specs.Calls.{meets, any, crosses}
 use Rattle.book.specs.Phases.{amends}

@@ -1,4 +1,4 @@
-use Rattle.std.proofs.Common.{◌≡◌, get_or, ap, ◌∙◌, arith}
+use Rattle.std.proofs.Common.{get_or, ap, ◌∙◌, arith}
 use Rattle.orders.specs.Finding.{found}
 use Rattle.orders.specs.Tables.{blank}
 use Rattle.orders.specs.declared.found.FoundOrder.{FoundOrder}

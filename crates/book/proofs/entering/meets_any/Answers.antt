@@ -1,4 +1,4 @@
-use Rattle.std.proofs.Common.{◌≡◌, sym, ◌∙◌, arith}
+use Rattle.std.proofs.Common.{sym, ◌∙◌, arith}
 use Rattle.orders.specs.Tables.{blank}
 use Rattle.book.specs.Calls.{meets}
 use Rattle.book.proofs.Looking.{any_here, any_later, any_of_none}
