@@ -15,7 +15,6 @@ import re
 import sys
 
 TOKEN = re.compile(r"[A-Za-z_\u0370-\u03ff\u2115][A-Za-z0-9_'\u2080-\u2089\u0370-\u03ff\u2115≡≢≤<-]*")
-OWN = re.compile(r"^\s*(?:ghost )?(?:pub )?use Rattle\.(\w+)\.(?:specs|proofs)\b")
 USE = re.compile(r"\b(?:ghost )?(?:pub )?use ([A-Za-z_.+'-]+?)(?:\.\{([^}]*)\})?(?: as [\w'-]+)?;?$", re.M)
 GOAL = re.compile(r"^\s*(?:abbrev )?(?:pub )?([^\s:]+) : goal\.", re.M)
 
