@@ -1,23 +1,25 @@
 -- The eligible orders of both sides: how many they are, what they bring, and that their entry numbers differ.
-use Rattle.std.proofs.Common.{◌≡◌, ℕ, ◌+◌, ◌-◌, ◌*◌, ◌≤◌, Bool, true, false, cond, not, ◌&&◌, eqb, List, [], ◌∷◌, length, sym, refl, ap, ◌∙◌, subst, inl, inr, arith}
+use Rattle.std.proofs.Common.{◌≡◌, ℕ, ◌+◌, ◌-◌, ◌*◌, ◌≤◌, Bool, true, false, cond, not, ◌&&◌, eqb, List, [], ◌∷◌, map, length, sym, refl, ap, ◌∙◌, subst, inl, inr, arith}
+use Rattle.std.proofs.lemmas.List.{length-map}
+use Rattle.std.proofs.lemmas.List.Sums.{count_by-le-length, length-filter, sum_by-cons}
 use Rattle.std.proofs.lemmas.Nat.{mul-le}
 use Rattle.std.proofs.lemmas.Bool.{both_ways, cases_Bool, cases_lt, and_parts, or_parts, eq-eqb, cond-false, cond-true}
-use Rattle.std.specs.List.{AllByRecursion}
+use Rattle.std.specs.List.{AllByRecursion, filter}
 use Rattle.auction.specs.Totals.{eligible, shares_at, total}
 use Rattle.orders.specs.Kinds.{same_side}
 use Rattle.orders.specs.declared.Side.{Side}
 use Rattle.orders.specs.declared.Side.TheVariants.{Buy, Sell}
 use Rattle.orders.specs.declared.found.FoundOrder.{FoundOrder}
 use Rattle.allocation.specs.Allocation.{named, distinct}
-use Rattle.allocation.specs.Holdings.{takes_part, held, all_left}
+use Rattle.allocation.specs.Holdings.{takes_part, whole, held, all_left}
 use Rattle.allocation.specs.Naming.{Apart}
 
 module _ (side : Side) (p : ℕ) (o : FoundOrder) (os : List FoundOrder) where
   held_in : takes_part side p o ≡ true → held side p (o ∷ os) ≡ record { order = o; left = o.shares } ∷ held side p os
-  held_in is = cond-true _ _ _ is
+  held_in is = ap (map whole) (cond-true _ _ _ is)
 
   held_out : takes_part side p o ≡ false → held side p (o ∷ os) ≡ held side p os
-  held_out out = cond-false _ _ _ out
+  held_out out = ap (map whole) (cond-false _ _ _ out)
 
   one_held : length (held side p (o ∷ os)) ≡ cond (takes_part side p o) 1 0 + length (held side p os)
   one_held =
@@ -36,7 +38,10 @@ module _ (side : Side) (p : ℕ) (o : FoundOrder) (os : List FoundOrder) where
 -- the holdings of a side bring its total
 pub brought : (side : Side) (p : ℕ) (os : List FoundOrder) → all_left (held side p os) ≡ total side p os
 brought side p [] = refl
-brought side p (o ∷ os) = one_brought side p o os ∙ ap (λ n. shares_at side p o + n) (brought side p os)
+brought side p (o ∷ os) = one_brought side p o os ∙ ap (λ n. shares_at side p o + n) (brought side p os) ∙ sym (sum_by-cons (shares_at side p) o os)
+
+pub held_few : (side : Side) (p : ℕ) (os : List FoundOrder) → length (held side p os) ≤ length os
+held_few side p os = omega (arith, length-map (filter (takes_part side p) os) whole, length-filter (takes_part side p) os, count_by-le-length (takes_part side p) os)
 
 -- an order is on one side
 one_side : (s : Side) (e : Bool) → cond (same_side s Buy && e) 1 0 + cond (same_side s Sell && e) 1 0 ≤ 1

@@ -3,6 +3,6 @@ pub mod Alone
 pub mod Pushing
 pub mod Listing
 pub mod Trading
-pub mod Entries
 pub mod Eligible
 pub mod Allocating
+pub mod Extending

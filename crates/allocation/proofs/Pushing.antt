@@ -1,13 +1,11 @@
 -- Loops that list what passes a test: what is listed and what is still to come is the whole.
-use Rattle.std.proofs.Common.{◌≡◌, ℕ, ◌+◌, ◌<◌, ◌≤◌, true, false, List, [], ◌∷◌, ◌++◌, map, length, get_or, take, drop, set, sym, ap, ◌∙◌, subst, append_assoc, append-nil, arith}
+use Rattle.std.proofs.Common.{◌≡◌, ℕ, ◌+◌, ◌<◌, ◌≤◌, List, [], ◌∷◌, ◌++◌, map, length, get_or, take, drop, set, sym, ap, ◌∙◌, subst, append_assoc, append-nil, arith}
 use mathlib.Core.List.{map-append}
 use Rattle.std.proofs.ByRecursion.{All-push}
 use Rattle.std.proofs.lemmas.List.{at_drop_all, at_drop_more, drop-drop, drop-set-lt, length-append, length-set, length-take-le, take_more_set}
-use Rattle.std.proofs.lemmas.Bool.{cond-false, cond-true, le-ltb, lt-ltb}
+use Rattle.std.proofs.lemmas.Bool.{cond-true, lt-ltb}
 use Rattle.std.specs.List.{AllByRecursion}
-use Rattle.orders.specs.declared.Side.{Side}
-use Rattle.orders.specs.declared.found.FoundOrder.{FoundOrder}
-use Rattle.allocation.specs.Holdings.{takes_part, held, paired, pairs_with, pairs_of, live_pairs}
+use Rattle.allocation.specs.Holdings.{paired, pairs_with, pairs_of, live_pairs}
 use Rattle.allocation.specs.Naming.{trade_of}
 use Rattle.allocation.specs.Trades.{Trade, all_shares}
 use Rattle.allocation.specs.declared.held.Fill.{Fill}
@@ -39,26 +37,10 @@ still_inside out count x inside = omega (arith, length-set out count x)
 pub length_behind : {X : Type 0} (out : List X) (count : ℕ) (more : List X) → count + length more ≤ length out → length (take count out ++ more) ≡ count + length more
 length_behind out count more fits = length-append (take count out) more ∙ ap (λ n. n + length more) (length-take-le count out (omega arith))
 
-module _ (side : Side) (p : ℕ) (items : List FoundOrder) (i : ℕ) (d : FoundOrder) (inside : i < length items) (front whole : List Holding) (so_far : front ++ held side p (drop i items) ≡ whole) where
-  next : front ++ held side p (get_or items i d ∷ drop (i + 1) items) ≡ whole
-  next = ap (λ l. front ++ l) (sym (at_drop_more (held side p) items i d inside)) ∙ so_far
-
-  pub passed_over : takes_part side p (get_or items i d) ≡ false → front ++ held side p (drop (i + 1) items) ≡ whole
-  passed_over out = ap (λ l. front ++ l) (sym (cond-false _ _ _ out)) ∙ next
-
-  pub taken_in : takes_part side p (get_or items i d) ≡ true → front ++ (record { order = get_or items i d; left = (get_or items i d).shares } ∷ held side p (drop (i + 1) items)) ≡ whole
-  taken_in is = ap (λ l. front ++ l) (sym (cond-true _ _ _ is)) ∙ next
-
-pub held_end : (side : Side) (p : ℕ) (items : List FoundOrder) (i : ℕ) (front whole : List Holding) → length items ≤ i → front ++ held side p (drop i items) ≡ whole → front ++ [] ≡ whole
-held_end side p items i front whole all e = ap (λ l. front ++ l) (sym (at_drop_all (held side p) items i all)) ∙ e
-
--- the same of the pairs of one buy
+-- the pairs of one buy
 module _ (b : Holding) (place : ℕ) (sells : List Holding) (j : ℕ) (d : Holding) (inside : j < length sells) (front whole : List LivePair) (so_far : front ++ pairs_with b place j (drop j sells) ≡ whole) where
   next_pair : front ++ pairs_with b place j (get_or sells j d ∷ drop (j + 1) sells) ≡ whole
   next_pair = ap (λ l. front ++ l) (sym (at_drop_more (pairs_with b place j) sells j d inside)) ∙ so_far
-
-  pub spent_over : (get_or sells j d).left ≡ 0 → front ++ pairs_with b place (j + 1) (drop (j + 1) sells) ≡ whole
-  spent_over out = ap (λ l. front ++ l) (sym (cond-false _ _ _ (le-ltb 0 (get_or sells j d).left (omega arith)))) ∙ next_pair
 
   pub paired_in : ((get_or sells j d).left ≡ 0 → ⊥) → front ++ (paired b (get_or sells j d) place j ∷ pairs_with b place (j + 1) (drop (j + 1) sells)) ≡ whole
   paired_in is = ap (λ l. front ++ l) (sym (cond-true _ _ _ (lt-ltb 0 (get_or sells j d).left (omega (arith, is))))) ∙ next_pair
@@ -66,22 +48,16 @@ module _ (b : Holding) (place : ℕ) (sells : List Holding) (j : ℕ) (d : Holdi
 pub pairs_end : (b : Holding) (place : ℕ) (sells : List Holding) (j : ℕ) (front whole : List LivePair) → length sells ≤ j → front ++ pairs_with b place j (drop j sells) ≡ whole → front ++ [] ≡ whole
 pairs_end b place sells j front whole all e = ap (λ l. front ++ l) (sym (at_drop_all (pairs_with b place j) sells j all)) ∙ e
 
--- the same of the pairs of all buys
+-- the pairs of all buys
 module _ (buys sells : List Holding) (i : ℕ) (d : Holding) (inside : i < length buys) (front whole : List LivePair) (so_far : front ++ live_pairs i (drop i buys) sells ≡ whole) where
   next_buy : front ++ (pairs_of i sells (get_or buys i d) ++ live_pairs (i + 1) (drop (i + 1) buys) sells) ≡ whole
   next_buy = ap (λ l. front ++ l) (sym (at_drop_more (λ l. live_pairs i l sells) buys i d inside)) ∙ so_far
-
-  pub spent_buy : (get_or buys i d).left ≡ 0 → front ++ live_pairs (i + 1) (drop (i + 1) buys) sells ≡ whole
-  spent_buy out = ap (λ l. front ++ (l ++ live_pairs (i + 1) (drop (i + 1) buys) sells)) (sym (cond-false _ _ _ (le-ltb 0 (get_or buys i d).left (omega arith)))) ∙ next_buy
 
   pub some_buy : ((get_or buys i d).left ≡ 0 → ⊥) → front ++ (pairs_with (get_or buys i d) i 0 sells ++ live_pairs (i + 1) (drop (i + 1) buys) sells) ≡ whole
   some_buy is = ap (λ l. front ++ (l ++ live_pairs (i + 1) (drop (i + 1) buys) sells)) (sym (cond-true _ _ _ (lt-ltb 0 (get_or buys i d).left (omega (arith, is))))) ∙ next_buy
 
 pub buys_end : (buys sells : List Holding) (i : ℕ) (front whole : List LivePair) → length buys ≤ i → front ++ live_pairs i (drop i buys) sells ≡ whole → front ++ [] ≡ whole
 buys_end buys sells i front whole all e = ap (λ l. front ++ l) (sym (at_drop_all (λ l. live_pairs i l sells) buys i all)) ∙ e
-
-pub added : {X : Type 0} (front now more rest whole : List X) → now ≡ front ++ more → front ++ (more ++ rest) ≡ whole → now ++ rest ≡ whole
-added front now more rest whole is e = ap (λ l. l ++ rest) is ∙ append_assoc front more rest ∙ e
 
 pub still_room : {X : Type 0} (out : List X) (count : ℕ) (x : X) (m n : ℕ) → count + m ≤ length out + 1 → n < m → (count + 1) + n ≤ length (set out count x) + 1
 still_room out count x m n fits less = omega (arith, length-set out count x)

@@ -1,5 +1,5 @@
 -- One trade in the lists of holdings.
-use Rattle.std.proofs.Common.{◌≡◌, ℕ, zero, suc, ◌+◌, ◌-◌, ◌<◌, ◌≤◌, min, Bool, false, cond, eqb, ◌⊎◌, List, [], ◌∷◌, length, get_or, take, sum_by, sym, refl, ap, ◌∙◌, subst, inl, inr, arith}
+use Rattle.std.proofs.Common.{◌≡◌, ℕ, zero, suc, ◌+◌, ◌-◌, ◌<◌, ◌≤◌, min, Bool, false, cond, eqb, ◌⊎◌, List, [], ◌∷◌, ◌++◌, length, get_or, take, drop, sum_by, sym, refl, ap, ◌∙◌, subst, inl, inr, arith}
 use mathlib.Core.Path.{fun_ext}
 use Rattle.std.proofs.ByRecursion.{All-from_get_or, All-get_or, All-set}
 use Rattle.std.proofs.lemmas.List.{get_or-take, length-take-le}
@@ -16,6 +16,7 @@ use Rattle.allocation.specs.Trades.{Trade, buyer, seller, Spent, Foremost, after
 use Rattle.allocation.specs.declared.held.Holding.{Holding}
 use Rattle.allocation.specs.declared.held.LivePair.{LivePair}
 use Rattle.allocation.proofs.Listing.{Standing, all_standing, own_first, own_rest, some_pair, some_not_none}
+use Rattle.allocation.proofs.Pushing.{ended, buys_end}
 use Rattle.allocation.proofs.Settling.{some_with}
 
 -- what the lists give for the entry number of the order at a place
@@ -111,10 +112,15 @@ module _ (bs ss : List Holding) (p : LivePair) (b : Standing bs p.buy p.pair.buy
   pub still_sums : (n : ℕ) → n ≡ min (left_at bs p.buy) (left_at ss p.sell) → (all_left (given_up bs p.buy n) + n ≡ all_left bs) × (all_left (given_up ss p.sell n) + n ≡ all_left ss)
   still_sums n is = (all_less bs p.buy n b.0 (omega arith), all_less ss p.sell n s.0 (omega arith))
 
+-- once every buy was looked at, the list is whole
+all_listed : (bs ss : List Holding) (pairs : List LivePair) (i listed : ℕ) → length bs ≤ i → take listed pairs ++ live_pairs i (drop i bs) ss ≡ live_pairs 0 bs ss → take listed pairs ≡ live_pairs 0 bs ss
+all_listed bs ss pairs i listed all so_far = ended pairs listed _ (buys_end bs ss i _ _ all so_far)
+
 module _ (bs ss : List Holding) (buys_apart : Apart bs) (sells_apart : Apart ss) where
   -- where no pair can trade, one side is spent
-  pub none_listed : length (live_pairs 0 bs ss) ≡ 0 → Spent (left_of bs) ⊎ Spent (left_of ss)
-  none_listed none =
+  pub none_listed : (pairs : List LivePair) (i listed : ℕ) → length bs ≤ i → take listed pairs ++ live_pairs i (drop i bs) ss ≡ live_pairs 0 bs ss → length (take listed pairs) ≡ 0 → Spent (left_of bs) ⊎ Spent (left_of ss)
+  none_listed pairs i listed all so_far empty =
+      let none = ap length (sym (all_listed bs ss pairs i listed all so_far)) ∙ empty in
       elim (spent_or_not bs) [
         | inl spent ↦ inl spent.0
         | inr b ↦ elim (spent_or_not ss) [
@@ -169,7 +175,10 @@ module _ (bs ss : List Holding) (buys_apart : Apart bs) (sells_apart : Apart ss)
           )
 
 -- the first of the listed pairs stands in the lists, and no pair that can trade is ahead of it
-module _ (ahead : Pair → Pair → Bool) (bs ss : List Holding) (pairs : List LivePair) (listed k : ℕ) (fits : listed ≤ length pairs) (whole : take listed pairs ≡ live_pairs 0 bs ss) (first : First (λ p. pair_name p.pair) (λ p q. ahead p.pair q.pair) (take listed pairs) k) where
+module _ (ahead : Pair → Pair → Bool) (bs ss : List Holding) (pairs : List LivePair) (i listed k : ℕ) (fits : listed ≤ length pairs) (all : length bs ≤ i) (so_far : take listed pairs ++ live_pairs i (drop i bs) ss ≡ live_pairs 0 bs ss) (first : First (λ p. pair_name p.pair) (λ p q. ahead p.pair q.pair) (take listed pairs) k) where
+  whole : take listed pairs ≡ live_pairs 0 bs ss
+  whole = all_listed bs ss pairs i listed all so_far
+
   first_is : get_or (live_pairs 0 bs ss) k no_pair ≡ get_or pairs k no_pair
   first_is = ap (λ l. get_or l k no_pair) (sym whole) ∙ get_or-take listed pairs k no_pair (omega (arith, first.within, length-take-le listed pairs fits))
 

@@ -1,6 +1,6 @@
 -- What an allocation is: the one list of trades that nobody can object to.
-use Rattle.std.specs.Prelude.{◌≡◌, ℕ, ◌<◌, ◌≤◌, Bool, true, false, not, ◌&&◌, ◌||◌, ◌⊎◌, List, [], ◌∷◌, map, length, take, drop, ◌==◌}
-use Rattle.std.specs.List.{AllByRecursion}
+use Rattle.std.specs.Prelude.{◌≡◌, ℕ, ◌<◌, ◌≤◌, Bool, true, false, not, ◌&&◌, ◌⊎◌, List, [], ◌∷◌, map, length, take, drop, ◌==◌}
+use Rattle.std.specs.List.{AllByRecursion, list_any}
 use Rattle.auction.specs.Totals.{volume}
 use Rattle.orders.specs.declared.Side.TheVariants.{Buy, Sell}
 use Rattle.orders.specs.declared.found.FoundOrder.{FoundOrder}
@@ -8,13 +8,14 @@ use Rattle.priority.specs.declared.Pair.{Pair}
 use Rattle.allocation.specs.Holdings.{held, left_of}
 use Rattle.allocation.specs.Naming.{by_name, trade_of, NamesFound}
 use Rattle.allocation.specs.Trades.{Trade, all_shares, Settled, Greedy}
+use Rattle.allocation.specs.declared.error.AllocationError.{AllocationError}
+use Rattle.allocation.specs.declared.error.AllocationError.TheVariants.{ShortMemory, SharedEntry}
 use Rattle.allocation.specs.declared.held.Fill.{Fill}
 use Rattle.allocation.specs.declared.held.LivePair.{LivePair}
 
 -- an order with the entry number is in the list, and no two have one entry number
 abbrev pub named : ℕ → List FoundOrder → Bool
-named n [] = false
-named n (o ∷ os) = o.entry == n || named n os
+named n = list_any (λ o. o.entry == n)
 
 abbrev pub distinct : List FoundOrder → Bool
 distinct [] = true
@@ -23,6 +24,11 @@ distinct (o ∷ os) = not (named o.entry os) && distinct os
 -- the orders and the lent memory do not serve
 abbrev pub Refused : List FoundOrder → List LivePair → List Fill → Type 0
 Refused orders pairs fills = (length pairs < 4096) ⊎ (length fills < 127) ⊎ (distinct orders ≡ false)
+
+-- which of the two it is: the memory, and where that serves the orders
+abbrev pub Cause : List FoundOrder → List LivePair → List Fill → AllocationError → Type 0
+Cause orders pairs fills ShortMemory = (length pairs < 4096) ⊎ (length fills < 127)
+Cause orders pairs fills SharedEntry = (4096 ≤ length pairs) × (127 ≤ length fills) × (distinct orders ≡ false)
 
 -- the rule on the eligible orders of both sides, by their entry numbers
 abbrev pub rule_at : (Pair → Pair → Bool) → ℕ → List FoundOrder → ℕ × ℕ → ℕ × ℕ → Bool

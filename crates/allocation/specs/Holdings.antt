@@ -1,5 +1,5 @@
 -- The orders of one side with what each has left, and the pairs that can still trade.
-use Rattle.std.specs.Prelude.{ℕ, ◌+◌, ◌-◌, Bool, cond, ◌&&◌, List, [], ◌∷◌, ◌++◌, ◌==◌, nat_lt, slice_index_or, slice_set}
+use Rattle.std.specs.Prelude.{ℕ, ◌+◌, ◌-◌, Bool, cond, ◌&&◌, List, [], ◌∷◌, ◌++◌, map, filter, ◌==◌, nat_lt, slice_index_or, slice_set}
 use Rattle.auction.specs.Totals.{eligible}
 use Rattle.orders.specs.Kinds.{same_side}
 use Rattle.orders.specs.declared.Kind.TheVariants.{Market}
@@ -13,9 +13,11 @@ use Rattle.allocation.specs.declared.held.LivePair.{LivePair}
 abbrev pub takes_part : Side → ℕ → FoundOrder → Bool
 takes_part side p o = same_side o.side side && eligible p o
 
+abbrev pub whole : FoundOrder → Holding
+whole o = record { order = o; left = o.shares }
+
 abbrev pub held : Side → ℕ → List FoundOrder → List Holding
-held side p [] = []
-held side p (o ∷ os) = cond (takes_part side p o) (record { order = o; left = o.shares } ∷ held side p os) (held side p os)
+held side p os = map whole (filter (takes_part side p) os)
 
 -- what the order with an entry number has left, and 0 where there is none
 abbrev pub left_of : List Holding → ℕ → ℕ

@@ -5,8 +5,8 @@ ghost use Rattle.allocation.specs.Holdings.{left_of, left_at, given_up, all_left
 ghost use Rattle.allocation.specs.Naming.{Apart, by_name, trade_of, NamesFound};
 ghost use Rattle.allocation.specs.Trades.{Greedy, all_shares};
 
-use super::held::{ByRule, Fill, Holding, LivePair, add_pairs};
-use priority::PairingRule;
+use super::held::{Fill, Holding, LivePair, add_pairs};
+use priority::{PairingRule, Ranked};
 use ranking::first;
 
 // Trades the smaller of what the two orders of a pair have left, and answers how much that was.
@@ -24,8 +24,10 @@ fn trade_pair(next: &LivePair, buys: &mut [Holding], sells: &mut [Holding]) -> u
 }
 
 // Trades what the orders have left, and answers how many fills that took.
+// Pairs and fills are memory that the caller lends, each a slice with a count: nothing is allocated.
+// No struct of the two lists: tried, and the invariant of the inner loop cannot name it.
 pub(crate) fn trade_all<R: PairingRule>(
-    rule: &ByRule<R>,
+    rule: &Ranked<R, LivePair>,
     buys: &mut [Holding],
     sells: &mut [Holding],
     pairs: &mut [LivePair],
@@ -49,15 +51,16 @@ pub(crate) fn trade_all<R: PairingRule>(
                 continue;
             }
             let more = add_pairs(pairs, listed, *buy, i, sells);
+            // a label, since a buy without a pair ends both loops: no sell has a share
             if more == listed {
                 break 'trades;
             }
             listed = more;
         }
-        let next = match first(rule, &pairs[..listed]) {
-            None => break 'trades,
-            Some(k) => pairs[k],
+        let Some(k) = first(rule, &pairs[..listed]) else {
+            break;
         };
+        let next = pairs[k];
         let shares = trade_pair(&next, buys, sells);
         fills[count] = Fill {
             pair: next.pair,

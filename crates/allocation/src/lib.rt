@@ -1,83 +1,73 @@
 // Who trades with whom at the close.
 #![tactic(auto)]
 
-ghost use Rattle.std.specs.Prelude.{◌≡◌, take, MatchOption, IfSome, OnSome};
+ghost use Rattle.std.specs.Prelude.{◌≡◌, take, MatchResult, IfErr, IfOk, OnOk};
 ghost use Rattle.auction.specs.Orders.{listed};
-ghost use Rattle.allocation.specs.Allocation.{named, distinct, Refused, Allocated, NameOrders};
+ghost use Rattle.allocation.specs.Allocation.{named, distinct, Refused, Cause, Allocated, NameOrders};
 
 use auction::found::FoundOrders;
+use orders::Side;
 use orders::found::FoundOrder;
-use orders::{Kind, Side};
-use priority::PairingRule;
+use priority::{PairingRule, Ranked};
+use std::marker::PhantomData;
 
+pub mod error;
 mod greedy;
 pub mod held;
 
+use error::AllocationError;
 use greedy::trade_all;
-use held::{ByRule, Fill, Holding, LivePair, hold};
+use held::{Fill, LivePair, hold};
 
-// Working memory of so many pairs, and so many places for fills, serve every book.
+// Working memory of so many pairs, and so many places for fills, serve every book. The caller lends both, as this project asks.
 pub const PAIRS: usize = 4096;
 
 pub const FILLS: usize = 127;
 
-const PLACES: usize = 128;
-
-const VACANT: Holding = Holding {
-    order: FoundOrder {
-        number: 0,
-        entry: 0,
-        kind: Kind::Market,
-        side: Side::Buy,
-        broker: 0,
-        standing: 0,
-        shares: 0,
-    },
-    left: 0,
-};
-
 fn has_entry(orders: &[FoundOrder], wanted: u32) -> bool
     ensures { result ≡ named wanted orders.now }
 {
-    for order in orders {
-        if order.entry == wanted {
-            return true;
-        }
-    }
-    false
+    orders.iter().any(|order| order.entry == wanted)
 }
 
 fn are_distinct(orders: &[FoundOrder]) -> bool
     ensures { result ≡ distinct orders.now }
 {
-    for i in 0..orders.len() {
-        if has_entry(&orders[i + 1..], orders[i].entry) {
+    let mut rest = orders;
+    while let [order, later @ ..] = rest {
+        if has_entry(later, order.entry) {
             return false;
         }
+        rest = later;
     }
     true
 }
 
 // Fills the orders that are eligible at the price, by the rule, and answers how many fills that took.
-// None where two orders have one entry number or the lent memory is too short; then nothing is changed.
+// An error where the lent memory is too short, else where two orders have one entry number; then nothing is changed.
 pub fn allocate<R: PairingRule + Copy>(
     rule: &R,
     orders: &FoundOrders,
     price: u32,
     pairs: &mut [LivePair],
     fills: &mut [Fill],
-) -> Option<usize>
-    ensures answer { MatchOption result (Refused (listed orders.now) pairs.old fills.old × (pairs.new ≡ pairs.old) × (fills.new ≡ fills.old)) (Allocated (R.PairingRule.ahead rule.now) price (listed orders.now) fills.old fills.new) }
-    ensures served { OnSome result (¬ Refused (listed orders.now) pairs.old fills.old) }
-    ensures found { IfSome result (λ count. NameOrders price (listed orders.now) (take count fills.new)) }
+) -> Result<usize, AllocationError>
+    ensures answer { MatchResult result (Allocated (R.PairingRule.ahead rule.now) price (listed orders.now) fills.old fills.new) (λ _. Refused (listed orders.now) pairs.old fills.old × (pairs.new ≡ pairs.old) × (fills.new ≡ fills.old)) }
+    ensures served { OnOk result (¬ Refused (listed orders.now) pairs.old fills.old) }
+    ensures cause { IfErr result (Cause (listed orders.now) pairs.old fills.old) }
+    ensures found { IfOk result (λ count. NameOrders price (listed orders.now) (take count fills.new)) }
 {
-    if pairs.len() < PAIRS || fills.len() < FILLS || !are_distinct(orders.as_slice()) {
-        return None;
+    if pairs.len() < PAIRS || fills.len() < FILLS {
+        return Err(AllocationError::ShortMemory);
     }
-    let mut buys = [VACANT; PLACES];
-    let mut sells = [VACANT; PLACES];
-    let bought = hold(orders, Side::Buy, price, &mut buys);
-    let sold = hold(orders, Side::Sell, price, &mut sells);
-    let rule = ByRule { rule: *rule };
-    Some(trade_all(&rule, &mut buys[..bought], &mut sells[..sold], pairs, fills))
+    if !are_distinct(orders.as_slice()) {
+        return Err(AllocationError::SharedEntry);
+    }
+    let mut buys = hold(orders, Side::Buy, price);
+    let mut sells = hold(orders, Side::Sell, price);
+    let rule = Ranked {
+        rule: *rule,
+        of: PhantomData,
+    };
+    Ok(trade_all(&rule, &mut buys, &mut sells, pairs, fills))
 }

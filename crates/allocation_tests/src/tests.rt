@@ -1,3 +1,4 @@
+use allocation::error::AllocationError;
 use allocation::held::{Fill, LivePair};
 use allocation::{FILLS, PAIRS, allocate};
 use auction::found::FoundOrders;
@@ -6,32 +7,6 @@ use orders::{Kind, Side};
 use priority::{ByPrice, BySteps, Pair, PairingRule};
 use std::process::Abort;
 use std::test::Fail;
-
-const NOBODY: FoundOrder = FoundOrder {
-    number: 0,
-    entry: 0,
-    kind: Kind::Market,
-    side: Side::Buy,
-    broker: 0,
-    standing: 0,
-    shares: 0,
-};
-
-const NO_PAIR: Pair = Pair {
-    buy: NOBODY,
-    sell: NOBODY,
-};
-
-const NO_FILL: Fill = Fill {
-    pair: NO_PAIR,
-    shares: 0,
-};
-
-const NO_LIVE_PAIR: LivePair = LivePair {
-    pair: NO_PAIR,
-    buy: 0,
-    sell: 0,
-};
 
 fn market(side: Side, entry: u32, broker: u16, shares: u32) -> FoundOrder {
     FoundOrder {
@@ -69,15 +44,14 @@ fn fills_are<R: PairingRule + Copy>(
     price: u32,
     expected: &[(u32, u32, u32)],
 ) -> Result<(), Fail> {
-    let mut pairs = [NO_LIVE_PAIR; PAIRS];
-    let mut fills = [NO_FILL; FILLS];
-    let count = allocate(rule, &book(orders), price, &mut pairs, &mut fills).ok_or("refused")?;
+    let mut pairs = [LivePair::default(); PAIRS];
+    let mut fills = [Fill::default(); FILLS];
+    let count = allocate(rule, &book(orders), price, &mut pairs, &mut fills)?;
     assert_eq!(rt; count, expected.len());
-    for i in 0..count {
-        let fill = fills[i];
+    for (fill, wanted) in fills[..count].iter().zip(expected) {
         assert_eq!(rt;
             (fill.pair.buy.entry, fill.pair.sell.entry, fill.shares),
-            expected[i]
+            *wanted
         );
     }
     Ok(())
@@ -158,13 +132,26 @@ fn the_two_rules_fill_one_book_differently(rt: HostRuntime) -> Result<(), Fail> 
 fn a_refused_call_changes_nothing(rt: HostRuntime) {
     let orders = book(&[market(Side::Buy, 1, 0, 20), market(Side::Sell, 2, 0, 20)]);
     let twice = book(&[market(Side::Buy, 1, 0, 20), market(Side::Sell, 1, 0, 20)]);
-    let mut pairs = [NO_LIVE_PAIR; PAIRS];
-    let mut fills = [NO_FILL; FILLS];
-    let mut few_pairs = [NO_LIVE_PAIR; 4_095];
-    let mut few_fills = [NO_FILL; 126];
-    assert!(rt; allocate(&BySteps, &twice, 100, &mut pairs, &mut fills).is_none());
-    assert!(rt; allocate(&BySteps, &orders, 100, &mut few_pairs, &mut fills).is_none());
-    assert!(rt; allocate(&BySteps, &orders, 100, &mut pairs, &mut few_fills).is_none());
+    let mut pairs = [LivePair::default(); PAIRS];
+    let mut fills = [Fill::default(); FILLS];
+    let mut few_pairs = [LivePair::default(); 4_095];
+    let mut few_fills = [Fill::default(); 126];
+    let shared = allocate(&BySteps, &twice, 100, &mut pairs, &mut fills);
+    assert_eq!(rt; shared, Err(AllocationError::SharedEntry));
+    let short = Err(AllocationError::ShortMemory);
+    assert_eq!(rt;
+        allocate(&BySteps, &orders, 100, &mut few_pairs, &mut fills),
+        short
+    );
+    assert_eq!(rt;
+        allocate(&BySteps, &orders, 100, &mut pairs, &mut few_fills),
+        short
+    );
+    // the memory is looked at first
+    assert_eq!(rt;
+        allocate(&BySteps, &twice, 100, &mut pairs, &mut few_fills),
+        short
+    );
     assert_eq!(rt; fills[0].shares, 0);
     assert_eq!(rt; few_fills[0].shares, 0);
     assert_eq!(rt; pairs[0].pair.buy.entry, 0);
@@ -179,15 +166,17 @@ fn the_largest_book_takes_127_fills(rt: HostRuntime) {
         let shares = if i == 0 { 1 } else { 2 };
         orders.push(market(Side::Sell, 100 + i, 0, shares));
     }
-    let mut pairs = [NO_LIVE_PAIR; PAIRS];
-    let mut fills = [NO_FILL; FILLS];
+    let mut pairs = [LivePair::default(); PAIRS];
+    let mut fills = [Fill::default(); FILLS];
     let count = allocate(&BySteps, &orders, 100, &mut pairs, &mut fills);
-    assert_eq!(rt; count, Some(127));
+    assert_eq!(rt; count, Ok(127));
     assert_eq!(rt; fills[126].pair.buy.entry, 63);
     assert_eq!(rt; fills[126].pair.sell.entry, 163);
     assert_eq!(rt; fills[126].shares, 1);
 }
 
+// The next number of a fixed sequence. It and the orders above stand in each crate of tests: a crate of helpers would be no
+// plainer, since its functions would be public ones that promise nothing.
 fn next(seed: u32) -> u32 {
     seed.wrapping_mul(1_664_525).wrapping_add(1_013_904_223)
 }
@@ -217,18 +206,17 @@ fn takes_part(order: &FoundOrder, side: Side, price: u32) -> bool {
 
 // What each order has left, at the place of the order.
 fn left_of(orders: &[FoundOrder; 12], left: &[u32; 12], entry: u32) -> u32 {
-    for i in 0..12 {
-        if orders[i].entry == entry {
-            return left[i];
-        }
-    }
-    0
+    orders
+        .iter()
+        .zip(left)
+        .find(|(order, _)| order.entry == entry)
+        .map_or(0, |(_, left)| *left)
 }
 
 fn take_from(orders: &[FoundOrder; 12], left: &mut [u32; 12], entry: u32, shares: u32) {
-    for i in 0..12 {
-        if orders[i].entry == entry {
-            left[i] = left[i].saturating_sub(shares);
+    for (order, left) in orders.iter().zip(left) {
+        if order.entry == entry {
+            *left = left.saturating_sub(shares);
         }
     }
 }
@@ -241,16 +229,16 @@ fn first_by_search<R: PairingRule>(
     price: u32,
 ) -> Option<Pair> {
     let mut best: Option<Pair> = None;
-    for i in 0..12 {
-        for j in 0..12 {
+    for (buy, to_buy) in orders.iter().zip(left) {
+        for (sell, to_sell) in orders.iter().zip(left) {
             let pair = Pair {
-                buy: orders[i],
-                sell: orders[j],
+                buy: *buy,
+                sell: *sell,
             };
             if !takes_part(&pair.buy, Side::Buy, price)
                 || !takes_part(&pair.sell, Side::Sell, price)
-                || left[i] == 0
-                || left[j] == 0
+                || *to_buy == 0
+                || *to_sell == 0
             {
                 continue;
             }
@@ -270,23 +258,17 @@ fn agrees_with_search<R: PairingRule + Copy>(
     rule: &R,
     orders: &[FoundOrder; 12],
 ) -> Result<(), Fail> {
-    let mut pairs = [NO_LIVE_PAIR; PAIRS];
-    let mut fills = [NO_FILL; FILLS];
-    let count = allocate(rule, &book(orders), 100, &mut pairs, &mut fills).ok_or("refused")?;
-    let mut left = [0; 12];
-    for i in 0..12 {
-        left[i] = orders[i].shares;
-    }
-    for i in 0..FILLS {
-        if i >= count {
-            break;
-        }
+    let mut pairs = [LivePair::default(); PAIRS];
+    let mut fills = [Fill::default(); FILLS];
+    let count = allocate(rule, &book(orders), 100, &mut pairs, &mut fills)?;
+    let mut left = orders.map(|order| order.shares);
+    for fill in &fills[..count] {
         let pair = first_by_search(rule, orders, &left, 100).ok_or("a fill too many")?;
         let (buy, sell) = (pair.buy.entry, pair.sell.entry);
         let shares = left_of(orders, &left, buy).min(left_of(orders, &left, sell));
-        assert_eq!(rt; fills[i].pair.buy.entry, buy);
-        assert_eq!(rt; fills[i].pair.sell.entry, sell);
-        assert_eq!(rt; fills[i].shares, shares);
+        assert_eq!(rt; fill.pair.buy.entry, buy);
+        assert_eq!(rt; fill.pair.sell.entry, sell);
+        assert_eq!(rt; fill.shares, shares);
         take_from(orders, &mut left, buy, shares);
         take_from(orders, &mut left, sell, shares);
     }
@@ -298,11 +280,11 @@ fn agrees_with_search<R: PairingRule + Copy>(
 fn the_fills_agree_with_a_search_over_every_pair(rt: HostRuntime) -> Result<(), Fail> {
     let mut seed = 1;
     for _ in 0..200 {
-        let mut orders = [NOBODY; 12];
-        for i in 0..12 {
+        let mut orders = [FoundOrder::default(); 12];
+        for (i, order) in orders.iter_mut().enumerate() {
             seed = next(seed);
             // later orders may have earlier entry numbers
-            orders[i] = some_order(seed, 1 + (i as u32 * 5) % 12);
+            *order = some_order(seed, 1 + (i as u32 * 5) % 12);
         }
         agrees_with_search(&rt, &BySteps, &orders)?;
         agrees_with_search(&rt, &ByPrice, &orders)?;
@@ -344,13 +326,13 @@ fn is_settled<R: PairingRule>(rule: &R, pairs: &[Pair; 4], shares: &[u32; 4]) ->
 }
 
 fn filled(fills: &[Fill; FILLS], count: usize, pair: &Pair) -> u32 {
-    for i in 0..FILLS {
-        let other = fills[i].pair;
-        if i < count && other.buy.entry == pair.buy.entry && other.sell.entry == pair.sell.entry {
-            return fills[i].shares;
-        }
-    }
-    0
+    fills
+        .iter()
+        .take(count)
+        .find(|fill| {
+            fill.pair.buy.entry == pair.buy.entry && fill.pair.sell.entry == pair.sell.entry
+        })
+        .map_or(0, |fill| fill.shares)
 }
 
 fn settles_in_one_way<R: PairingRule + Copy>(
@@ -359,9 +341,9 @@ fn settles_in_one_way<R: PairingRule + Copy>(
     four: &[Pair; 4],
 ) -> Result<(), Fail> {
     let orders = book(&[four[0].buy, four[2].buy, four[0].sell, four[1].sell]);
-    let mut pairs = [NO_LIVE_PAIR; PAIRS];
-    let mut fills = [NO_FILL; FILLS];
-    let count = allocate(rule, &orders, 100, &mut pairs, &mut fills).ok_or("refused")?;
+    let mut pairs = [LivePair::default(); PAIRS];
+    let mut fills = [Fill::default(); FILLS];
+    let count = allocate(rule, &orders, 100, &mut pairs, &mut fills)?;
     let mut settled: u32 = 0;
     for code in 0u32..81 {
         let shares = [code % 3, code / 3 % 3, code / 9 % 3, code / 27];
@@ -369,8 +351,8 @@ fn settles_in_one_way<R: PairingRule + Copy>(
             continue;
         }
         settled = settled.saturating_add(1);
-        for i in 0..4 {
-            assert_eq!(rt; filled(&fills, count, &four[i]), shares[i]);
+        for (pair, shares) in four.iter().zip(&shares) {
+            assert_eq!(rt; filled(&fills, count, pair), *shares);
         }
     }
     assert_eq!(rt; settled, 1);
@@ -395,11 +377,11 @@ fn tiny_order(seed: u32, side: Side, entry: u32) -> FoundOrder {
 fn no_other_list_of_fills_is_settled(rt: HostRuntime) -> Result<(), Fail> {
     let mut seed = 1;
     for _ in 0..60 {
-        let mut orders = [NOBODY; 4];
-        for i in 0..4 {
+        let mut orders = [FoundOrder::default(); 4];
+        for (i, order) in orders.iter_mut().enumerate() {
             seed = next(seed);
             let side = if i < 2 { Side::Buy } else { Side::Sell };
-            orders[i] = tiny_order(seed, side, 1 + (i as u32 * 3) % 4);
+            *order = tiny_order(seed, side, 1 + (i as u32 * 3) % 4);
         }
         let [one, two, three, four] = orders;
         let pairs = [

@@ -1,5 +1,7 @@
 -- The first of the candidates is the best of all open prices, and the only one.
-use Rattle.std.proofs.Common.{◌≡◌, ℕ, zero, suc, ◌<◌, ◌≤◌, Bool, true, false, ◌&&◌, leb, List, [], ◌∷◌, length, get_or, Some, None, Option, sym, refl, ap, ◌∙◌, subst, inl, inr, arith}
+use Rattle.std.proofs.Common.{◌≡◌, ℕ, zero, suc, ◌<◌, ◌≤◌, Bool, true, false, ◌&&◌, leb, List, length, get_or, Some, None, Option, MatchOption, IsSomeAnd, sym, refl, ap, ◌∙◌, subst, inl, inr, arith}
+use Rattle.std.proofs.lemmas.List.{get_or_default}
+use Rattle.std.proofs.lemmas.List.Elements.{Contains-get_or}
 use Rattle.std.proofs.lemmas.Bool.{and_from, and_parts, both_ways, cases_Bool, cases_eq, cond_both, le-leb, leb-true}
 use Rattle.grid.specs.Prices.{WithinRange}
 use Rattle.orders.specs.declared.found.FoundOrder.{FoundOrder}
@@ -10,18 +12,7 @@ use Rattle.ranking.specs.declared.points.PricePoint.{PricePoint}
 use Rattle.auction.specs.Best.{BestPoint, Strikes, better, best_to, best_price}
 use Rattle.auction.specs.Candidates.{cuts, candidates}
 use Rattle.auction.specs.Totals.{point}
-use Rattle.auction.proofs.Leading.{Among, led, tried_sound}
-
--- where an item of a list stands
-place : {X : Type 0} (x : X) (xs : List X) → Among x xs → (k : ℕ) × (k < length xs) × ((d : X) → get_or xs k d ≡ x)
-place x [] a = absurd a
-place x (y ∷ xs) (inl e) = (0, omega arith, λ _. sym e)
-place x (y ∷ xs) (inr a) = let (k, l, is) = place x xs a in (suc k, omega arith, is)
-
-placed : {X : Type 0} (xs : List X) (k : ℕ) (d : X) → k < length xs → Among (get_or xs k d) xs
-placed [] k d l = absurd (omega arith)
-placed (x ∷ xs) zero d l = inl refl
-placed (x ∷ xs) (suc k) d l = inr (placed xs k d (omega arith))
+use Rattle.auction.proofs.Leading.{led, tried_sound}
 
 module _ (opens : ℕ → Bool) (R : ℕ) (orders : List FoundOrder) where
   abbrev here : ℕ → PricePoint
@@ -35,15 +26,16 @@ module _ (opens : ℕ → Bool) (R : ℕ) (orders : List FoundOrder) where
     first_is_best : (k : ℕ) (d : PricePoint) → First (λ p. p.price) ahead tried k → BestPoint opens R orders (get_or tried k d)
     first_is_best k d f =
         let best = get_or tried k d in
-        let (is_open, is_point) = tried_sound opens ranged R orders (cuts R orders) best (placed tried k d f.within) in
+        let (is_open, is_point) = tried_sound opens ranged R orders (cuts R orders) best (Contains-get_or tried k d f.within) in
         record {
           is_open = is_open;
           is_point = is_point;
           is_ahead = λ q o other.
               let l = led opens ranged R orders q o in
-              let (j, inside, at) = place (here l.by) tried l.is_tried in
+              let (j, inside, at) = l.is_tried in
+              let at_d : get_or tried j d ≡ here l.by = get_or_default tried j d (here l.by) inside ∙ at in
               let behind : (l.by ≡ best.price → ⊥) → ahead best (here l.by) ≡ true =
-              λ ne. subst (λ x. ahead best x ≡ true) (at d) (f.behind j d inside (λ e. ne (sym (ap (λ x. x.price) (at d)) ∙ e)))
+              λ ne. subst (λ x. ahead best x ≡ true) at_d (f.behind j d inside (λ e. ne (sym (ap (λ x. x.price) at_d) ∙ e)))
               in
               elim l.leads [
                 | inl e ↦ subst (λ n. ahead best (here n) ≡ true) e (behind (λ same. other (sym e ∙ same)))
@@ -58,15 +50,21 @@ module _ (opens : ℕ → Bool) (R : ℕ) (orders : List FoundOrder) where
     none_is_open : length tried ≡ 0 → (p : ℕ) → opens p ≡ false
     none_is_open none p =
         elim (cases_Bool (opens p)) [
-          | inl o ↦ let (j, inside, at) = place _ tried (led opens ranged R orders p o).is_tried in absurd (omega arith)
+          | inl o ↦ let (j, inside, at) = (led opens ranged R orders p o).is_tried in absurd (omega arith)
           | inr shut ↦ shut
         ]
 
-    pub struck : (list : List PricePoint) (k : ℕ) (d : PricePoint) → list ≡ tried → First (λ p. p.price) ahead list k → Strikes opens R orders (Some (get_or list k d))
+    struck : (list : List PricePoint) (k : ℕ) (d : PricePoint) → list ≡ tried → First (λ p. p.price) ahead list k → Strikes opens R orders (Some (get_or list k d))
     struck list k d is f = subst (λ l. BestPoint opens R orders (get_or l k d)) (sym is) (first_is_best k d (subst (λ l. First (λ p. p.price) ahead l k) is f))
 
-    pub unstruck : (list : List PricePoint) → list ≡ tried → length list ≡ 0 → Strikes opens R orders None
+    unstruck : (list : List PricePoint) → list ≡ tried → length list ≡ 0 → Strikes opens R orders None
     unstruck list is none = none_is_open (sym (ap length is) ∙ none)
+
+    -- what is made of the place of the first candidate, if there is one
+    pub chosen : {Q : ℕ → PricePoint → Type 0} (list : List PricePoint) (at : Option ℕ) (r : Option PricePoint) → list ≡ tried → MatchOption at (length list ≡ 0) (First (λ p. p.price) ahead list) → MatchOption at (r ≡ None) (λ i. IsSomeAnd r (Q i)) → ((i : ℕ) (x : PricePoint) → i < length list → Q i x → x ≡ get_or list i x) → Strikes opens R orders r
+    chosen list None r is none e reads = subst (Strikes opens R orders) (sym e) (unstruck list is none)
+    chosen list (Some i) None is f e reads = absurd e
+    chosen list (Some i) (Some x) is f e reads = subst (λ y. Strikes opens R orders (Some y)) (sym (reads i x f.within e)) (struck list i x is f)
 
   -- two best points are the same
   same_best : (x y : PricePoint) → BestPoint opens R orders x → BestPoint opens R orders y → x ≡ y

@@ -1,8 +1,9 @@
 -- Why few prices suffice: every open price is a candidate or behind one.
-use Rattle.std.proofs.Common.{◌≡◌, ℕ, zero, suc, ◌+◌, ◌-◌, ◌/◌, ◌<◌, ◌≤◌, Bool, true, eqb, ◌⊎◌, List, [], ◌∷◌, ◌++◌, map, sym, refl, subst, inl, inr, arith}
+use Rattle.std.proofs.Common.{◌≡◌, ℕ, zero, suc, ◌+◌, ◌-◌, ◌/◌, ◌<◌, ◌≤◌, Bool, true, eqb, ◌⊎◌, List, [], ◌∷◌, map, sym, refl, subst, inl, inr, arith}
 use Rattle.std.proofs.lemmas.Bool.{cases_lt, cond_both, cond-false, eqb-false, ne_eqb}
 use Rattle.std.proofs.lemmas.Bool.Decides.{nat_tests}
-use Rattle.std.specs.List.{flat_map, AllByRecursion}
+use Rattle.std.proofs.lemmas.List.Elements.{Contains-append_left, Contains-append_right, Contains-append_cases}
+use Rattle.std.specs.List.{flat_map, AllByRecursion, Contains}
 use Rattle.grid.proofs.Nearest.{least_from_is, greatest_to_is, above_is, below_is}
 use Rattle.grid.specs.Prices.{WithinRange, AtOrAbove, AtOrBelow, least_from, greatest_to}
 use Rattle.orders.specs.declared.found.FoundOrder.{FoundOrder}
@@ -14,43 +15,32 @@ use Rattle.auction.specs.Candidates.{cut, point_of, around, cuts, candidates}
 use Rattle.auction.specs.Totals.{point}
 use Rattle.auction.proofs.Steady.{Beside, volume_same, imbalance_same}
 
--- x stands in the list
-abbrev pub Among : {X : Type 0} → X → List X → Type 0
-Among x [] = ⊥
-Among x (y ∷ ys) = (x ≡ y) ⊎ Among x ys
+alone : {X : Type 0} (x y : X) → Contains (y ∷ []) x → y ≡ x
+alone x y (zero, inside, is) = is
+alone x y (suc k, inside, is) = absurd (omega arith)
 
-among_left : {X : Type 0} (x : X) (xs ys : List X) → Among x xs → Among x (xs ++ ys)
-among_left x [] ys a = absurd a
-among_left x (y ∷ xs) ys (inl e) = inl e
-among_left x (y ∷ xs) ys (inr a) = inr (among_left x xs ys a)
-
-among_right : {X : Type 0} (x : X) (xs ys : List X) → Among x ys → Among x (xs ++ ys)
-among_right x [] ys a = a
-among_right x (y ∷ xs) ys a = inr (among_right x xs ys a)
-
-among_either : {X : Type 0} (x : X) (xs ys : List X) → Among x (xs ++ ys) → Among x xs ⊎ Among x ys
-among_either x [] ys a = inr a
-among_either x (y ∷ xs) ys (inl e) = inl (inl e)
-among_either x (y ∷ xs) ys (inr a) = elim (among_either x xs ys a) [ inl b ↦ inl (inr b) | inr b ↦ inr b ]
-
-among_joined : {X Y : Type 0} (f : X → List Y) (y : Y) (x : X) (xs : List X) → Among x xs → Among y (f x) → Among y (flat_map f xs)
-among_joined f y x [] a b = absurd a
-among_joined f y x (z ∷ xs) (inl e) b = among_left y (f z) (flat_map f xs) (subst (λ w. Among y (f w)) e b)
-among_joined f y x (z ∷ xs) (inr a) b = among_right y (f z) (flat_map f xs) (among_joined f y x xs a b)
+-- what f makes of an element stands in what it makes of all
+joined : {X Y : Type 0} (f : X → List Y) (y : Y) (x : X) (xs : List X) → Contains xs x → Contains (f x) y → Contains (flat_map f xs) y
+joined f y x [] (k, inside, is) b = absurd (omega arith)
+joined f y x (z ∷ xs) a b =
+    elim (Contains-append_cases (z ∷ []) xs x a) [
+      | inl e ↦ Contains-append_left (f z) (flat_map f xs) y (subst (λ w. Contains (f w) y) (sym (alone x z e)) b)
+      | inr c ↦ Contains-append_right (f z) (flat_map f xs) y (joined f y x xs c b)
+    ]
 
 -- either one of the numbers lies from p to below q, or none does
-split : (p q : ℕ) (cs : List ℕ) → ((c : ℕ) × Among c cs × (p ≤ c) × (c < q)) ⊎ AllByRecursion (Beside p q) cs
+split : (p q : ℕ) (cs : List ℕ) → ((c : ℕ) × Contains cs c × (p ≤ c) × (c < q)) ⊎ AllByRecursion (Beside p q) cs
 split p q [] = inr tt
 split p q (c ∷ cs) =
     elim (cases_lt c p) [
       | inl below ↦ elim (split p q cs) [
-        | inl (d, a, l, h) ↦ inl (d, inr a, l, h)
+        | inl (d, a, l, h) ↦ inl (d, Contains-append_right (c ∷ []) cs d a, l, h)
         | inr rest ↦ inr (inl below, rest)
       ]
       | inr from ↦ elim (cases_lt c q) [
-        | inl less ↦ inl (c, inl refl, from, less)
+        | inl less ↦ inl (c, (0, omega arith, refl), from, less)
         | inr above ↦ elim (split p q cs) [
-          | inl (d, a, l, h) ↦ inl (d, inr a, l, h)
+          | inl (d, a, l, h) ↦ inl (d, Contains-append_right (c ∷ []) cs d a, l, h)
           | inr rest ↦ inr (inr above, rest)
         ]
       ]
@@ -70,26 +60,29 @@ module _ (opens : ℕ → Bool) (ranged : WithinRange opens) (R : ℕ) (orders :
   abbrev tried : List PricePoint
   tried = candidates opens R orders
 
-  -- the greatest open price at or below a cut is tried, and so is the least above it
-  below_tried : (c q : ℕ) → Among c (cuts R orders) → AtOrBelow opens c q → 0 < q → Among (here q) tried
-  below_tried c q a is some =
-      among_joined (around opens R orders) (here q) c (cuts R orders) a
-      (among_left (here q) (point_of R orders (greatest_to opens c)) _
-      (subst (λ p. Among (here q) (point_of R orders p)) (below_is opens c q is) (subst (Among (here q)) (sym (cond-false _ _ _ (ne_eqb q 0 (λ e. omega arith)))) (inl refl))))
+  listed : (q : ℕ) → 0 < q → Contains (point_of R orders q) (here q)
+  listed q some = subst (λ l. Contains l (here q)) (sym (cond-false _ _ _ (ne_eqb q 0 (λ e. omega arith)))) (0, omega arith, refl)
 
-  above_tried : (c q : ℕ) → Among c (cuts R orders) → AtOrAbove opens (c + 1) q → 0 < q → Among (here q) tried
+  -- the greatest open price at or below a cut is tried, and so is the least above it
+  below_tried : (c q : ℕ) → Contains (cuts R orders) c → AtOrBelow opens c q → 0 < q → Contains tried (here q)
+  below_tried c q a is some =
+      joined (around opens R orders) (here q) c (cuts R orders) a
+      (Contains-append_left (point_of R orders (greatest_to opens c)) _ (here q)
+      (subst (λ p. Contains (point_of R orders p) (here q)) (below_is opens c q is) (listed q some)))
+
+  above_tried : (c q : ℕ) → Contains (cuts R orders) c → AtOrAbove opens (c + 1) q → 0 < q → Contains tried (here q)
   above_tried c q a is some =
-      among_joined (around opens R orders) (here q) c (cuts R orders) a
-      (among_right (here q) (point_of R orders (greatest_to opens c)) _
-      (subst (λ p. Among (here q) (point_of R orders p)) (above_is opens ranged (c + 1) q is) (subst (Among (here q)) (sym (cond-false _ _ _ (ne_eqb q 0 (λ e. omega arith)))) (inl refl))))
+      joined (around opens R orders) (here q) c (cuts R orders) a
+      (Contains-append_right (point_of R orders (greatest_to opens c)) _ (here q)
+      (subst (λ p. Contains (point_of R orders p) (here q)) (above_is opens ranged (c + 1) q is) (listed q some)))
 
   -- q is a candidate or behind one
   pub record Led (q : ℕ) : Type 0 where
     pub by : ℕ
-    pub is_tried : Among (here by) tried
+    pub is_tried : Contains tried (here by)
     pub leads : (by ≡ q) ⊎ (ahead (here by) (here q) ≡ true)
 
-  itself : (q : ℕ) → Among (here q) tried → Led q
+  itself : (q : ℕ) → Contains tried (here q) → Led q
   itself q a = record { by = q; is_tried = a; leads = inl refl }
 
   passes : (q r : ℕ) → ahead (here q) (here r) ≡ true → Led q → Led r
@@ -117,7 +110,7 @@ module _ (opens : ℕ → Bool) (ranged : WithinRange opens) (R : ℕ) (orders :
       let next = least_from_is opens ranged (q + 1) in
       elim (cases_lt 0 n) [
         | inr gone ↦
-            itself q (below_tried (R / 2) q (inl refl) (record {
+            itself q (below_tried (R / 2) q (0, omega arith, refl) (record {
               held = λ _. is;
               below = low;
               greatest = λ p h to. elim (cases_lt q p) [ inl l ↦ absurd (omega (arith, (next.least p h (omega arith)).0)) | inr g ↦ g ];
@@ -145,7 +138,7 @@ module _ (opens : ℕ → Bool) (ranged : WithinRange opens) (R : ℕ) (orders :
       let prev = greatest_to_is opens (q - 1) in
       elim (cases_lt 0 n) [
         | inr gone ↦
-            itself q (above_tried (R / 2) q (inl refl) (record {
+            itself q (above_tried (R / 2) q (0, omega arith, refl) (record {
               held = λ _. is;
               above = λ _. omega arith;
               least = λ p h from. elim (cases_lt p q) [ inl l ↦ absurd (omega (arith, prev.greatest p h (omega arith), (ranged p h).0)) | inr g ↦ (omega arith, g) ];
@@ -177,26 +170,26 @@ module _ (opens : ℕ → Bool) (ranged : WithinRange opens) (R : ℕ) (orders :
   pub led : (q : ℕ) → opens q ≡ true → Led q
   led q is = elim (cases_lt (R / 2) q) [ inl high ↦ down q q is high (omega arith) | inr low ↦ up (R / 2) q is low (omega arith) ]
 
-  point_sound : (p : ℕ) (x : PricePoint) → (0 < p → opens p ≡ true) → Among x (point_of R orders p) → (opens x.price ≡ true) × (x ≡ here x.price)
+  point_sound : (p : ℕ) (x : PricePoint) → (0 < p → opens p ≡ true) → Contains (point_of R orders p) x → (opens x.price ≡ true) × (x ≡ here x.price)
   point_sound p x held =
-      cond_both (eqb p 0) [] (here p ∷ []) (λ l. Among x l → (opens x.price ≡ true) × (x ≡ here x.price))
-      (λ _ a. absurd a)
+      cond_both (eqb p 0) [] (here p ∷ []) (λ l. Contains l x → (opens x.price ≡ true) × (x ≡ here x.price))
+      (λ _ a. let (k, inside, at) = a in absurd (omega arith))
       (λ some a.
-      let is : x ≡ here p = elim a [ inl e ↦ e | inr none ↦ absurd none ] in
+      let is : x ≡ here p = sym (alone x (here p) a) in
       (subst (λ y. opens y.price ≡ true) (sym is) (held (omega (arith, eqb-false p 0 some))), subst (λ y. y ≡ here y.price) (sym is) refl))
 
-  around_sound : (c : ℕ) (x : PricePoint) → Among x (around opens R orders c) → (opens x.price ≡ true) × (x ≡ here x.price)
+  around_sound : (c : ℕ) (x : PricePoint) → Contains (around opens R orders c) x → (opens x.price ≡ true) × (x ≡ here x.price)
   around_sound c x a =
-      elim (among_either x (point_of R orders (greatest_to opens c)) (point_of R orders (least_from opens (c + 1))) a) [
+      elim (Contains-append_cases (point_of R orders (greatest_to opens c)) (point_of R orders (least_from opens (c + 1))) x a) [
         | inl b ↦ point_sound (greatest_to opens c) x (greatest_to_is opens c).held b
         | inr b ↦ point_sound (least_from opens (c + 1)) x (least_from_is opens ranged (c + 1)).held b
       ]
 
   -- every candidate is the point of an open price
-  pub tried_sound : (cs : List ℕ) (x : PricePoint) → Among x (flat_map (around opens R orders) cs) → (opens x.price ≡ true) × (x ≡ here x.price)
-  tried_sound [] x a = absurd a
+  pub tried_sound : (cs : List ℕ) (x : PricePoint) → Contains (flat_map (around opens R orders) cs) x → (opens x.price ≡ true) × (x ≡ here x.price)
+  tried_sound [] x (k, inside, is) = absurd (omega arith)
   tried_sound (c ∷ cs) x a =
-      elim (among_either x (around opens R orders c) (flat_map (around opens R orders) cs) a) [
+      elim (Contains-append_cases (around opens R orders c) (flat_map (around opens R orders) cs) x a) [
         | inl b ↦ around_sound c x b
         | inr b ↦ tried_sound cs x b
       ]

@@ -1,5 +1,7 @@
 -- How totals move with the price, and that they do not move with the order of the list.
-use Rattle.std.proofs.Common.{◌≡◌, ℕ, ◌+◌, ◌≤◌, min, Bool, true, cond, ◌&&◌, List, [], ◌∷◌, ◌++◌, Some, None, Option, sym, refl, ap, ◌∙◌, subst, inl, inr, arith}
+use Rattle.std.proofs.Common.{◌≡◌, ℕ, ◌+◌, ◌≤◌, min, Bool, true, cond, ◌&&◌, List, [], ◌∷◌, ◌++◌, Some, None, Option, sym, ap, ◌∙◌, subst, inl, inr, arith}
+use Rattle.std.proofs.lemmas.List.Sums.{sum_by-append, sum_by-cons, sum_by-le-sum_by}
+use Rattle.std.specs.List.{sum_by}
 use Rattle.std.proofs.lemmas.Bool.{cases_eq}
 use Rattle.std.proofs.lemmas.Bool.Decides.{nat_tests}
 use Rattle.orders.specs.Kinds.{same_side}
@@ -13,11 +15,7 @@ use Rattle.ranking.specs.declared.points.PricePoint.{PricePoint}
 use Rattle.threshold.specs.Percents.{distance}
 use Rattle.auction.specs.Best.{Strikes}
 use Rattle.auction.specs.Laws.{Monotone, TradesIfAny, Reordered, OrderFree}
-use Rattle.auction.specs.Totals.{reaches, trades, shares_at, closing_at, sum, volume, apart, point}
-
-sum_le : (f g : FoundOrder → ℕ) → ((o : FoundOrder) → f o ≤ g o) → (orders : List FoundOrder) → sum f orders ≤ sum g orders
-sum_le f g less [] = omega arith
-sum_le f g less (o ∷ os) = omega (arith, less o, sum_le f g less os)
+use Rattle.auction.specs.Totals.{reaches, trades, shares_at, closing_at, volume, apart, point}
 
 fewer_buys : (p q : ℕ) → p ≤ q → (kind : Kind) (side : Side) (s shares : ℕ) → cond (same_side side Buy && trades kind (reaches side s q)) shares 0 ≤ cond (same_side side Buy && trades kind (reaches side s p)) shares 0
 fewer_buys p q l Market Buy s shares = omega arith
@@ -37,8 +35,8 @@ more_sells p q l Displayed Sell s shares = grind (arith, nat_tests)
 
 pub monotone : (p : ℕ) (orders : List FoundOrder) → Monotone p orders
 monotone p orders q l = (
-  sum_le _ _ (λ o. fewer_buys p q l o.kind o.side o.standing o.shares) orders,
-  sum_le _ _ (λ o. more_sells p q l o.kind o.side o.standing o.shares) orders,
+  sum_by-le-sum_by _ _ orders (λ o. fewer_buys p q l o.kind o.side o.standing o.shares),
+  sum_by-le-sum_by _ _ orders (λ o. more_sells p q l o.kind o.side o.standing o.shares),
 )
 
 -- what is ahead has no less volume
@@ -53,15 +51,14 @@ trades_if_any opens R orders (Some best) b = λ zero q o.
       | inr ne ↦ omega (arith, no_less best (point R orders q) (b.is_ahead q o ne), zero)
     ]
 
-sum_moved : (f : FoundOrder → ℕ) (front back : List FoundOrder) (o : FoundOrder) → sum f (front ++ o ∷ back) ≡ f o + sum f (front ++ back)
-sum_moved f [] back o = refl
-sum_moved f (x ∷ front) back o = omega (arith, sum_moved f front back o)
+sum_moved : (f : FoundOrder → ℕ) (front back : List FoundOrder) (o : FoundOrder) → sum_by f (front ++ o ∷ back) ≡ f o + sum_by f (front ++ back)
+sum_moved f front back o = omega (arith, sum_by-append f front (o ∷ back), sum_by-cons f o back, sum_by-append f front back)
 
-sum_reordered : (f : FoundOrder → ℕ) (xs ys : List FoundOrder) → Reordered xs ys → sum f xs ≡ sum f ys
-sum_reordered f [] ys r = sym (ap (sum f) r)
+sum_reordered : (f : FoundOrder → ℕ) (xs ys : List FoundOrder) → Reordered xs ys → sum_by f xs ≡ sum_by f ys
+sum_reordered f [] ys r = sym (ap (sum_by f) r)
 sum_reordered f (x ∷ xs) ys r =
     let (front, back, is, rest) = r in
-    omega (arith, sum_reordered f xs (front ++ back) rest, sum_moved f front back x, ap (sum f) is)
+    omega (arith, sum_reordered f xs (front ++ back) rest, sum_moved f front back x, sum_by-cons f x xs, ap (sum_by f) is)
 
 point_reordered : (R : ℕ) (xs ys : List FoundOrder) → Reordered xs ys → (p : ℕ) → point R xs p ≡ point R ys p
 point_reordered R xs ys r p = λ i. record {

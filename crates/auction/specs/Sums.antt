@@ -1,30 +1,24 @@
--- The four totals at a price, and how they grow by one order.
-use Rattle.std.specs.Prelude.{◌≡◌, ℕ, ◌+◌, ◌^◌, ◌<◌, ◌≤◌, List}
+-- Shares to buy and shares to sell of the orders that count.
+use Rattle.std.specs.Prelude.{◌≡◌, ℕ, ◌+◌, Bool, ◌&&◌, List}
+use Rattle.std.specs.Fn.{FnReturnsAt, Shared}
+use Rattle.std.specs.Borrow.{Bor}
+use Rattle.std.specs.List.{sum_by}
+use Rattle.orders.specs.Kinds.{is_closing}
 use Rattle.orders.specs.declared.Side.TheVariants.{Buy, Sell}
 use Rattle.orders.specs.declared.found.FoundOrder.{FoundOrder}
-use Rattle.auction.specs.Totals.{shares_at, closing_at, total, closing_total}
-use Rattle.auction.specs.declared.totals.FourTotals.{FourTotals}
+use Rattle.auction.specs.Totals.{shares_if}
 
-pub record Sums (p : ℕ) (orders : List FoundOrder) (t : FourTotals) : Type 0 where
-  pub buys : t.buys ≡ total Buy p orders
-  pub sells : t.sells ≡ total Sell p orders
-  pub closing_buys : t.closing_buys ≡ closing_total Buy p orders
-  pub closing_sells : t.closing_sells ≡ closing_total Sell p orders
+-- each call of f at an order answers the test of that order
+abbrev pub Tells : {F : Type 0} → Shared F (Bor FoundOrder × Unit {0}) Bool → F → (FoundOrder → Bool) → Type 0
+Tells g f test = (o : FoundOrder) (r : Bool) → FnReturnsAt g f o r → r ≡ test o
 
--- another order still fits 64 bits
-pub record Room (t : FourTotals) : Type 0 where
-  pub buys : t.buys + 2 ^ 32 ≤ 2 ^ 64
-  pub sells : t.sells + 2 ^ 32 ≤ 2 ^ 64
-  pub closing_buys : t.closing_buys + 2 ^ 32 ≤ 2 ^ 64
-  pub closing_sells : t.closing_sells + 2 ^ 32 ≤ 2 ^ 64
+-- the totals with an order more, if it counts
+abbrev pub one_more : (FoundOrder → Bool) → FoundOrder → ℕ × ℕ → ℕ × ℕ
+one_more counts o t = (t.0 + shares_if counts Buy o, t.1 + shares_if counts Sell o)
 
--- a total grows by the shares of an order, which fit 32 bits
-pub record Grows (more was now : ℕ) : Type 0 where
-  pub is : now ≡ was + more
-  pub small : more < 2 ^ 32
+-- the closing orders among those that count
+abbrev pub closing_and : (FoundOrder → Bool) → FoundOrder → Bool
+closing_and counts o = is_closing o.kind && counts o
 
-pub record OneMore (p : ℕ) (o : FoundOrder) (was now : FourTotals) : Type 0 where
-  pub buys : Grows (shares_at Buy p o) was.buys now.buys
-  pub sells : Grows (shares_at Sell p o) was.sells now.sells
-  pub closing_buys : Grows (closing_at Buy p o) was.closing_buys now.closing_buys
-  pub closing_sells : Grows (closing_at Sell p o) was.closing_sells now.closing_sells
+abbrev pub shares_of : (FoundOrder → Bool) → List FoundOrder → ℕ × ℕ
+shares_of counts orders = (sum_by (shares_if counts Buy) orders, sum_by (shares_if counts Sell) orders)

@@ -1,6 +1,7 @@
 -- What would trade at a price.
-use Rattle.std.specs.Prelude.{ℕ, ◌+◌, ◌-◌, min, Bool, true, cond, ◌&&◌, List, [], ◌∷◌, nat_le}
-use Rattle.orders.specs.Kinds.{is_closing, same_side}
+use Rattle.std.specs.Prelude.{ℕ, ◌+◌, ◌-◌, min, Bool, true, cond, ◌&&◌, List, nat_le}
+use Rattle.std.specs.List.{sum_by}
+use Rattle.orders.specs.Kinds.{is_closing, is_market, same_side}
 use Rattle.orders.specs.declared.Kind.{Kind}
 use Rattle.orders.specs.declared.Kind.TheVariants.{Market, Limit, Displayed}
 use Rattle.orders.specs.declared.Side.{Side}
@@ -23,22 +24,29 @@ trades Displayed reached = reached
 abbrev pub eligible : ℕ → FoundOrder → Bool
 eligible p o = trades o.kind (reaches o.side o.standing p)
 
--- the shares that an order brings to a side at a price, and those of closing orders only
+-- the shares that an order brings to a side if it counts
+abbrev pub shares_if : (FoundOrder → Bool) → Side → FoundOrder → ℕ
+shares_if counts side o = cond (same_side o.side side && counts o) o.shares 0
+
+-- those that it brings at a price, and those of closing orders only
 abbrev pub shares_at : Side → ℕ → FoundOrder → ℕ
-shares_at side p o = cond (same_side o.side side && eligible p o) o.shares 0
+shares_at side p = shares_if (eligible p) side
 
 abbrev pub closing_at : Side → ℕ → FoundOrder → ℕ
-closing_at side p o = cond (is_closing o.kind) (shares_at side p o) 0
-
-abbrev pub sum : (FoundOrder → ℕ) → List FoundOrder → ℕ
-sum shares [] = 0
-sum shares (o ∷ os) = shares o + sum shares os
+closing_at side p = shares_if (λ o. is_closing o.kind && eligible p o) side
 
 abbrev pub total : Side → ℕ → List FoundOrder → ℕ
-total side p = sum (shares_at side p)
+total side p = sum_by (shares_at side p)
 
 abbrev pub closing_total : Side → ℕ → List FoundOrder → ℕ
-closing_total side p = sum (closing_at side p)
+closing_total side p = sum_by (closing_at side p)
+
+-- the shares that an order brings to a side if it is a market order, at any price
+abbrev pub market_shares : Side → FoundOrder → ℕ
+market_shares side = shares_if (λ o. is_market o.kind) side
+
+abbrev pub market_total : Side → List FoundOrder → ℕ
+market_total side = sum_by (market_shares side)
 
 -- the smaller of all eligible buy and sell shares
 abbrev pub volume : ℕ → List FoundOrder → ℕ

@@ -1,14 +1,11 @@
 // The orders that a call finds: at most 128.
-ghost use Rattle.std.specs.Prelude.{◌≤◌};
-
+use arrayvec::ArrayVec;
 use orders::found::FoundOrder;
+use orders::table::MOST_ORDERS;
 
 pub mod list;
 
-// The first `count` places hold the orders.
-#[derive(Clone, Copy)]
+#[derive(Clone, Drop)]
 pub struct FoundOrders {
-    places: [FoundOrder; 128],
-    count: usize,
-    ghost few: { count ≤ 128 },
+    orders: ArrayVec<FoundOrder, MOST_ORDERS>,
 }

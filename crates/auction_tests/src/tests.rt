@@ -1,6 +1,6 @@
 use auction::band::in_fail_band;
 use auction::found::FoundOrders;
-use auction::search::{best_price, price_point};
+use auction::search::Auction;
 use auction::totals::totals;
 use grid::listed::Listed;
 use grid::{Cents, PriceSet};
@@ -67,7 +67,11 @@ fn struck(
     price: u32,
     volume: u64,
 ) -> Result<(), Fail> {
-    let best = best_price(&Cents, reference, &book(orders)).ok_or("no price")?;
+    let auction = Auction {
+        reference,
+        orders: &book(orders),
+    };
+    let best = auction.best_price(&Cents).ok_or("no price")?;
     assert_eq!(rt; best.price, price);
     assert_eq!(rt; best.volume, volume);
     Ok(())
@@ -219,15 +223,20 @@ fn a_grid_of_one_price_and_an_empty_band(rt: HostRuntime) -> Result<(), Fail> {
     let orders = book(&[limit(Side::Buy, 90, 10), limit(Side::Sell, 80, 10)]);
     let only = Listed::new(&[70])?;
     let reference = Reference::of_sales(None, 85);
-    let best = best_price(&only, reference, &orders).ok_or("no price")?;
+    let auction = Auction {
+        reference,
+        orders: &orders,
+    };
+    let best = auction.best_price(&only).ok_or("no price")?;
     assert_eq!(rt; best.price, 70);
     assert_eq!(rt; best.volume, 0);
     let band = in_fail_band(&only, reference);
-    assert!(rt; best_price(&band, reference, &orders).is_none());
+    assert!(rt; auction.best_price(&band).is_none());
     Ok(())
 }
 
-// The next number of a fixed sequence.
+// The next number of a fixed sequence. It and the orders above stand in each crate of tests: a crate of helpers would be no
+// plainer, since its functions would be public ones that promise nothing.
 fn next(seed: u32) -> u32 {
     seed.wrapping_mul(1_664_525).wrapping_add(1_013_904_223)
 }
@@ -246,7 +255,7 @@ fn some_order(seed: u32) -> FoundOrder {
     found(kind, side, (seed >> 16) % 40, 1 + (seed >> 24) % 5)
 }
 
-// Whether one price point is better than another, told by the rule alone.
+// Whether one price point is better than another, key after key as the rule says it, and so apart from the ranking under test.
 fn is_better(one: PricePoint, other: PricePoint) -> bool {
     one.volume > other.volume
         || one.volume == other.volume
@@ -268,14 +277,18 @@ fn the_search_agrees_with_a_search_over_every_price(rt: HostRuntime) -> Result<(
         }
         seed = next(seed);
         let reference = Reference::of(&[], Some((seed >> 16) % 45), 1);
-        let mut best = price_point(reference, &orders, 3);
+        let auction = Auction {
+            reference,
+            orders: &orders,
+        };
+        let mut best = auction.price_point(3);
         for price in grid.prices() {
-            let point = price_point(reference, &orders, *price);
+            let point = auction.price_point(*price);
             if is_better(point, best) {
                 best = point;
             }
         }
-        let found = best_price(&grid, reference, &orders).ok_or("no price")?;
+        let found = auction.best_price(&grid).ok_or("no price")?;
         assert_eq!(rt; found.price, best.price);
     }
     Ok(())

@@ -1,8 +1,9 @@
 -- The calls of the book: the tests of each, its answer, and the book after it.
-use Rattle.std.specs.Prelude.{ℕ, ◌+◌, ◌-◌, Bool, false, cond, not, ◌&&◌, ◌||◌, List, [], ◌∷◌, replicate, Some, None, Ok, Err, Result, ◌==◌, nat_le, nat_lt, slice_index_or}
+use Rattle.std.specs.Prelude.{ℕ, ◌+◌, ◌-◌, Bool, cond, not, ◌&&◌, ◌||◌, List, [], ◌∷◌, Some, None, Ok, Err, Result, ◌==◌, nat_le, nat_lt, slice_index_or}
+use Rattle.std.specs.List.{list_any}
 use Rattle.auction.specs.Totals.{reaches}
 use Rattle.orders.specs.Kinds.{is_displayed, same_side, more_aggressive}
-use Rattle.orders.specs.Tables.{blank, listed, known, with_order, with_more}
+use Rattle.orders.specs.Tables.{blank, listed, size, table_of, known, with_order, with_more}
 use Rattle.orders.specs.declared.Entry.{Entry}
 use Rattle.orders.specs.declared.Kind.{Kind}
 use Rattle.orders.specs.declared.Kind.TheVariants.{Market, Limit, Displayed}
@@ -20,7 +21,7 @@ use Rattle.book.specs.declared.State.TheVariants as state
 -- The opening
 
 abbrev pub opened : ℕ → Book
-opened close = record { table = record { orders = replicate 128 blank; count = 0 }; entries = 0; previous_close = close; last_sale = None; state = state.Entry }
+opened close = record { table = table_of []; entries = 0; previous_close = close; last_sale = None; state = state.Entry }
 
 abbrev pub opening : (ℕ → Bool) → ℕ → Result Book Refusal
 opening holds close = cond (holds close) (Ok (opened close)) (Err BadOpening)
@@ -29,7 +30,7 @@ opening holds close = cond (holds close) (Ok (opened close)) (Err BadOpening)
 
 -- what the book records of the order with a number
 abbrev pub recorded : Book → ℕ → Order
-recorded b number = slice_index_or b.table.orders (number - 1) blank
+recorded b number = slice_index_or (listed b.table) (number - 1) blank
 
 abbrev pub with_left : Order → ℕ → Order
 with_left o left =
@@ -62,17 +63,13 @@ on_grid holds Displayed limit = holds limit
 abbrev pub meets : Side → ℕ → Order → Bool
 meets side limit o = (is_displayed o.kind && nat_lt 0 o.left) && (not (same_side o.side side) && reaches side limit o.limit)
 
-abbrev pub any : {A : Type 0} → (A → Bool) → List A → Bool
-any test [] = false
-any test (x ∷ xs) = test x || any test xs
-
 abbrev pub crosses : Entry → List Order → Bool
-crosses e orders = is_displayed e.kind && any (meets e.side e.limit) orders
+crosses e orders = is_displayed e.kind && list_any (meets e.side e.limit) orders
 
 abbrev pub enter_tests : (ℕ → Bool) → Book → Entry → Tests
 enter_tests holds b e =
     (is_closed (phase_of b.state), BookClosed)
-    ∷ (nat_le 128 b.table.count || entries_used_up b.entries, NoRoom)
+    ∷ (nat_le 128 (size b.table) || entries_used_up b.entries, NoRoom)
     ∷ (bad_volume e.volume, BadVolume)
     ∷ (not (on_grid holds e.kind e.limit), OffGrid)
     ∷ (not (admits (phase_of b.state) e.kind e.flag), NotAdmitted)
@@ -84,10 +81,10 @@ enter_tests holds b e =
 
 abbrev pub entered : Book → Entry → Book
 entered b e =
-    record { table = with_more b.table (order_from (b.table.count + 1) (b.entries + 1) (phase_of b.state) e); entries = b.entries + 1; previous_close = b.previous_close; last_sale = b.last_sale; state = offset_by b.state e.volume }
+    record { table = with_more b.table (order_from (size b.table + 1) (b.entries + 1) (phase_of b.state) e); entries = b.entries + 1; previous_close = b.previous_close; last_sale = b.last_sale; state = offset_by b.state e.volume }
 
 abbrev pub enter_answer : (ℕ → Bool) → Book → Entry → Result ℕ Refusal
-enter_answer holds b e = answered (first_refusal (enter_tests holds b e)) (b.table.count + 1)
+enter_answer holds b e = answered (first_refusal (enter_tests holds b e)) (size b.table + 1)
 
 abbrev pub enter_book : (ℕ → Bool) → Book → Entry → Book
 enter_book holds b e = changed (first_refusal (enter_tests holds b e)) b (entered b e)

@@ -11,6 +11,7 @@ use orders::table::Order;
 use orders::{Kind, Phase};
 use priority::PairingRule;
 
+// Each of the three calls on one order looks it up by `let .. else` and refuses by itself, as this project asks.
 impl Book {
     fn amends(&self, kind: Kind) -> bool
         ensures { result ≡ amends (phase_of self.now.state) kind }

@@ -1,7 +1,8 @@
 // Entering an order.
 ghost use Rattle.std.specs.Prelude.{◌≡◌};
+ghost use Rattle.std.specs.List.{list_any};
 ghost use Rattle.orders.specs.Tables.{listed};
-ghost use Rattle.book.specs.Calls.{on_grid, meets, any, crosses, order_from, enter_answer, enter_book};
+ghost use Rattle.book.specs.Calls.{on_grid, meets, crosses, order_from, enter_answer, enter_book};
 ghost use Rattle.book.specs.Phases.{phase_of, admits, wrong_side, too_large, outside_band, offset_by};
 
 use crate::{Book, State, Venue, is_on_grid};
@@ -11,8 +12,6 @@ use orders::table::Order;
 use orders::{Entry, Kind, PegFlag, Phase, Side};
 use priority::PairingRule;
 use threshold::in_fail_band;
-
-pub const MOST_ORDERS: usize = 128;
 
 pub const MOST_ENTRIES: u32 = 1_000_000;
 
@@ -43,14 +42,9 @@ fn meets(side: Side, limit: u32, other: &Order) -> bool
 }
 
 fn meets_any(side: Side, limit: u32, orders: &[Order]) -> bool
-    ensures { result ≡ any (meets side limit) orders.now }
+    ensures { result ≡ list_any (meets side limit) orders.now }
 {
-    for other in orders {
-        if meets(side, limit, other) {
-            return true;
-        }
-    }
-    false
+    orders.iter().any(|other| meets(side, limit, other))
 }
 
 fn new_order(number: u16, entry_number: u32, phase: Phase, entry: Entry) -> Order
@@ -154,7 +148,7 @@ impl Book {
         if self.is_closed() {
             return Err(Refusal::BookClosed);
         }
-        if self.table.count >= MOST_ORDERS || self.entries >= MOST_ENTRIES {
+        if self.table.orders.is_full() || self.entries >= MOST_ENTRIES {
             return Err(Refusal::NoRoom);
         }
         if entry.volume == 0 || entry.volume > MOST_SHARES {
@@ -178,7 +172,7 @@ impl Book {
         if self.is_outside_band(entry.limit) {
             return Err(Refusal::NoOffset(Offset::OutsideBand));
         }
-        let number = self.table.count as u16 + 1;
+        let number = self.table.orders.len() as u16 + 1;
         self.entries += 1;
         let order = new_order(number, self.entries, self.phase(), entry);
         let _ = self.table.push(order);

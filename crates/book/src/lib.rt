@@ -24,8 +24,9 @@ pub struct Venue<G, R> {
     pub rule: R,
 }
 
-// The phase of the day, with what each phase knows.
-#[derive(Clone, Copy)]
+// The phase of the day, with what each phase knows. Its fields are plain: what remains is counted down and is no imbalance's
+// volume, so neither `Imbalance` nor `References` would be all of an extension, nor `Outcome` all of a close.
+#[derive(Clone, Copy, Debug, PartialEq, Eq)]
 pub enum State {
     Entry,
     Imbalance,
@@ -46,7 +47,7 @@ pub enum State {
     },
 }
 
-#[derive(Clone, Copy)]
+#[derive(Clone, Debug, PartialEq, Eq, Drop)]
 pub struct Book {
     pub table: OrderTable,
     // Entry numbers used: each accepted entry or amendment takes the next.

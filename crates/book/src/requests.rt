@@ -33,6 +33,7 @@ pub enum Answer {
 }
 
 impl Answer {
+    // The number that stands for the answer. No `From`: `u32::from(answer)` would not say which number it gives.
     pub fn number(self) -> u32
         ensures { result ≡ answer_number self }
     {
@@ -56,15 +57,13 @@ impl Book {
         ensures after { self.new ≡ request_book (G.PriceSet.holds venue.now.grid) self.old request }
     {
         match request {
-            Request::Enter(entry) => Ok(Answer::Entered(self.enter(venue, entry)?)),
+            Request::Enter(entry) => self.enter(venue, entry).map(Answer::Entered),
             Request::Amend { number, limit } => {
-                Ok(Answer::Amended(self.amend(venue, number, limit)?))
+                self.amend(venue, number, limit).map(Answer::Amended)
             }
-            Request::Cancel { number } => Ok(Answer::Cancelled(self.cancel(venue, number)?)),
-            Request::Take { number, volume } => {
-                Ok(Answer::Left(self.take(venue, number, volume)?))
-            }
-            Request::Advance => Ok(Answer::Moved(self.advance(venue)?)),
+            Request::Cancel { number } => self.cancel(venue, number).map(Answer::Cancelled),
+            Request::Take { number, volume } => self.take(venue, number, volume).map(Answer::Left),
+            Request::Advance => self.advance(venue).map(Answer::Moved),
         }
     }
 }

@@ -7,6 +7,7 @@ ghost use Rattle.book.specs.Views.{book_references, found_orders, book_totals, b
 
 use crate::{Book, State, Venue};
 use auction::found::FoundOrders;
+use auction::search::Auction;
 use auction::totals::totals;
 use grid::Grid;
 use notice::Notice;
@@ -25,7 +26,7 @@ pub struct References {
 }
 
 // The phase, and once the book is closed its price, the shares traded, the number of fills and the closing imbalance
-// that the call found at that price; these four are 0 before.
+// that the call found at that price. No `Option` of these four: the project asks that they are 0 until then.
 #[derive(Clone, Copy, Debug, PartialEq, Eq)]
 pub struct Outcome {
     pub phase: Phase,
@@ -88,9 +89,7 @@ impl Book {
     ) -> Result<(u64, u64), Refusal>
         ensures { result ≡ book_totals (G.PriceSet.holds venue.now.grid) self.now price }
     {
-        let Some(references) = self.references() else {
-            return Err(Refusal::BookClosed);
-        };
+        let references = self.references().ok_or(Refusal::BookClosed)?;
         Ok(totals(&self.found(venue, references.pegs), price))
     }
 
@@ -98,10 +97,12 @@ impl Book {
     pub fn notice<G: Grid, R: PairingRule>(&self, venue: &Venue<G, R>) -> Result<Notice, Refusal>
         ensures { result ≡ book_notice (G.PriceSet.holds venue.now.grid) self.now }
     {
-        let Some(references) = self.references() else {
-            return Err(Refusal::BookClosed);
+        let references = self.references().ok_or(Refusal::BookClosed)?;
+        let auction = Auction {
+            reference: references.current,
+            orders: &self.found(venue, references.pegs),
         };
-        Ok(Notice::of(references.current, &self.found(venue, references.pegs)))
+        Ok(Notice::of(&auction))
     }
 
     pub fn result(&self) -> Outcome

@@ -1,5 +1,4 @@
 // Advancing the phase.
-use crate::asking::Said::{No, Yes};
 use crate::asking::{book_fields, by_phase};
 use crate::samples::{VENUE, busy_book};
 use book::requests::Request;
@@ -14,7 +13,7 @@ fn two_advances_lead_into_the_freeze_and_none_leads_out(rt: HostRuntime) -> Resu
         &rt,
         &book,
         Request::Advance,
-        [Yes(1), Yes(2), No(16), No(16)],
+        [Ok(1), Ok(2), Err(16), Err(16)],
     )?;
     assert_eq!(rt; book.advance(&VENUE)?, Phase::Imbalance);
     assert_eq!(rt; book.advance(&VENUE)?, Phase::Freeze);

@@ -1,5 +1,4 @@
 // Amending an order.
-use crate::asking::Said::{No, Yes};
 use crate::asking::{Said, book_fields, by_phase, in_turn, order_is};
 use crate::samples::{
     VENUE, amend, busy_book, cancel, displayed, empty_book, enter, limit, market,
@@ -12,17 +11,17 @@ fn a_limit_order_that_stands_is_amended_up_to_the_imbalance_phase(
     rt: HostRuntime,
 ) -> Result<(), Fail> {
     const CASES: [(u16, [Said; 4]); 9] = [
-        (0, [No(11); 4]),
-        (8, [No(11); 4]),
-        (u16::MAX, [No(11); 4]),
+        (0, [Err(11); 4]),
+        (8, [Err(11); 4]),
+        (u16::MAX, [Err(11); 4]),
         // a market order, and displayed ones: standing, cancelled and taken whole
-        (1, [No(13); 4]),
-        (4, [No(13); 4]),
-        (6, [No(12); 4]),
-        (7, [No(12); 4]),
+        (1, [Err(13); 4]),
+        (4, [Err(13); 4]),
+        (6, [Err(12); 4]),
+        (7, [Err(12); 4]),
         // limit orders: a buy at 9.90 and a sell at 10.10
-        (2, [Yes(9), Yes(9), No(13), No(13)]),
-        (3, [Yes(9), Yes(9), No(13), No(13)]),
+        (2, [Ok(9), Ok(9), Err(13), Err(13)]),
+        (3, [Ok(9), Ok(9), Err(13), Err(13)]),
     ];
     let book = busy_book()?;
     for (number, said) in CASES {
@@ -35,16 +34,16 @@ fn a_limit_order_that_stands_is_amended_up_to_the_imbalance_phase(
 #[test]
 fn in_the_imbalance_phase_an_amendment_is_more_aggressive(rt: HostRuntime) -> Result<(), Fail> {
     const CASES: [(u16, u32, [Said; 4]); 10] = [
-        (2, 50, [Yes(9), No(14), No(13), No(13)]),
-        (2, 98_900, [Yes(9), No(14), No(13), No(13)]),
-        (2, 99_000, [Yes(9), No(14), No(13), No(13)]),
-        (2, 99_100, [Yes(9), Yes(9), No(13), No(13)]),
-        (2, 1_000_000_000, [Yes(9), Yes(9), No(13), No(13)]),
-        (3, 50, [Yes(9), Yes(9), No(13), No(13)]),
-        (3, 100_900, [Yes(9), Yes(9), No(13), No(13)]),
-        (3, 101_000, [Yes(9), No(14), No(13), No(13)]),
-        (3, 101_100, [Yes(9), No(14), No(13), No(13)]),
-        (3, 1_000_000_000, [Yes(9), No(14), No(13), No(13)]),
+        (2, 50, [Ok(9), Err(14), Err(13), Err(13)]),
+        (2, 98_900, [Ok(9), Err(14), Err(13), Err(13)]),
+        (2, 99_000, [Ok(9), Err(14), Err(13), Err(13)]),
+        (2, 99_100, [Ok(9), Ok(9), Err(13), Err(13)]),
+        (2, 1_000_000_000, [Ok(9), Ok(9), Err(13), Err(13)]),
+        (3, 50, [Ok(9), Ok(9), Err(13), Err(13)]),
+        (3, 100_900, [Ok(9), Ok(9), Err(13), Err(13)]),
+        (3, 101_000, [Ok(9), Err(14), Err(13), Err(13)]),
+        (3, 101_100, [Ok(9), Err(14), Err(13), Err(13)]),
+        (3, 1_000_000_000, [Ok(9), Err(14), Err(13), Err(13)]),
     ];
     let book = busy_book()?;
     for (number, price, said) in CASES {
@@ -57,7 +56,7 @@ fn in_the_imbalance_phase_an_amendment_is_more_aggressive(rt: HostRuntime) -> Re
 fn the_new_limit_is_on_the_grid(rt: HostRuntime) -> Result<(), Fail> {
     let book = busy_book()?;
     for price in [0, 49, 4_951, 5_050, 99_101, 1_000_000_100] {
-        let said = [No(5); 4];
+        let said = [Err(5); 4];
         by_phase(&rt, &book, amend(2, price), said)?;
     }
     Ok(())
@@ -71,15 +70,15 @@ fn each_amendment_takes_the_next_entry_number(rt: HostRuntime) -> Result<(), Fai
         &VENUE,
         &mut book,
         &[
-            (enter(limit(Side::Buy, 100_000, 1)), Yes(1)),
-            (enter(limit(Side::Sell, 100_000, 1)), Yes(2)),
-            (amend(1, 100_100), Yes(3)),
-            (amend(1, 100_100), Yes(4)),
-            (amend(3, 100_100), No(11)),
-            (enter(limit(Side::Sell, 100_000, 1)), Yes(3)),
-            (amend(3, 100_100), Yes(6)),
-            (cancel(3), Yes(1)),
-            (amend(3, 100_100), No(12)),
+            (enter(limit(Side::Buy, 100_000, 1)), Ok(1)),
+            (enter(limit(Side::Sell, 100_000, 1)), Ok(2)),
+            (amend(1, 100_100), Ok(3)),
+            (amend(1, 100_100), Ok(4)),
+            (amend(3, 100_100), Err(11)),
+            (enter(limit(Side::Sell, 100_000, 1)), Ok(3)),
+            (amend(3, 100_100), Ok(6)),
+            (cancel(3), Ok(1)),
+            (amend(3, 100_100), Err(12)),
         ],
     )
 }

@@ -1,5 +1,4 @@
 // Cancelling an order.
-use crate::asking::Said::{No, Yes};
 use crate::asking::{Said, book_fields, by_phase, in_turn, order_is};
 use crate::samples::{VENUE, busy_book, cancel, displayed, enter, in_phase, limit, take};
 use orders::{Phase, Side};
@@ -11,18 +10,18 @@ fn closing_orders_are_cancelled_in_the_entry_phase_and_displayed_ones_up_to_the_
     rt: HostRuntime,
 ) -> Result<(), Fail> {
     const CASES: [(u16, [Said; 4]); 10] = [
-        (0, [No(11); 4]),
-        (8, [No(11); 4]),
-        (u16::MAX, [No(11); 4]),
+        (0, [Err(11); 4]),
+        (8, [Err(11); 4]),
+        (u16::MAX, [Err(11); 4]),
         // cancelled, and taken whole
-        (6, [No(12); 4]),
-        (7, [No(12); 4]),
+        (6, [Err(12); 4]),
+        (7, [Err(12); 4]),
         // a market order, two limit orders and two displayed ones
-        (1, [Yes(100), No(13), No(13), No(13)]),
-        (2, [Yes(200), No(13), No(13), No(13)]),
-        (3, [Yes(300), No(13), No(13), No(13)]),
-        (4, [Yes(400), Yes(400), Yes(400), No(13)]),
-        (5, [Yes(500), Yes(500), Yes(500), No(13)]),
+        (1, [Ok(100), Err(13), Err(13), Err(13)]),
+        (2, [Ok(200), Err(13), Err(13), Err(13)]),
+        (3, [Ok(300), Err(13), Err(13), Err(13)]),
+        (4, [Ok(400), Ok(400), Ok(400), Err(13)]),
+        (5, [Ok(500), Ok(500), Ok(500), Err(13)]),
     ];
     let book = busy_book()?;
     for (number, said) in CASES {
@@ -33,17 +32,17 @@ fn closing_orders_are_cancelled_in_the_entry_phase_and_displayed_ones_up_to_the_
 
 #[test]
 fn what_is_entered_in_the_freeze_follows_its_kind(rt: HostRuntime) -> Result<(), Fail> {
-    let mut book = in_phase(&busy_book()?, Phase::Freeze);
+    let mut book = in_phase(&busy_book()?, Phase::Freeze)?;
     in_turn(
         &rt,
         &VENUE,
         &mut book,
         &[
-            (enter(limit(Side::Buy, 100_000, 10)), Yes(8)),
-            (enter(displayed(Side::Buy, 100_000, 20)), Yes(9)),
-            (cancel(8), No(13)),
-            (cancel(9), Yes(20)),
-            (cancel(9), No(12)),
+            (enter(limit(Side::Buy, 100_000, 10)), Ok(8)),
+            (enter(displayed(Side::Buy, 100_000, 20)), Ok(9)),
+            (cancel(8), Err(13)),
+            (cancel(9), Ok(20)),
+            (cancel(9), Err(12)),
         ],
     )
 }
@@ -56,12 +55,12 @@ fn only_what_is_left_is_cancelled(rt: HostRuntime) -> Result<(), Fail> {
         &VENUE,
         &mut book,
         &[
-            (take(4, 150), Yes(250)),
-            (cancel(4), Yes(250)),
-            (cancel(4), No(12)),
-            (take(4, 1), No(12)),
-            (take(5, 500), Yes(0)),
-            (cancel(5), No(12)),
+            (take(4, 150), Ok(250)),
+            (cancel(4), Ok(250)),
+            (cancel(4), Err(12)),
+            (take(4, 1), Err(12)),
+            (take(5, 500), Ok(0)),
+            (cancel(5), Err(12)),
         ],
     )
 }

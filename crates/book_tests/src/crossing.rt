@@ -1,5 +1,4 @@
 // A displayed order may not meet or cross a standing displayed order of the other side.
-use crate::asking::Said::{No, Yes};
 use crate::asking::{Said, by_phase, in_turn};
 use crate::samples::{VENUE, busy_book, cancel, displayed, empty_book, enter, limit, market, take};
 use orders::Side;
@@ -9,12 +8,12 @@ use std::test::Fail;
 #[test]
 fn a_displayed_order_stays_on_its_side_of_the_quote(rt: HostRuntime) -> Result<(), Fail> {
     const CASES: [(Side, u32, [Said; 4]); 6] = [
-        (Side::Buy, 100_100, [Yes(8), Yes(8), Yes(8), No(6)]),
-        (Side::Buy, 100_200, [No(7), No(7), No(7), No(6)]),
-        (Side::Buy, 100_300, [No(7), No(7), No(7), No(6)]),
-        (Side::Sell, 100_000, [Yes(8), Yes(8), Yes(8), No(6)]),
-        (Side::Sell, 99_900, [No(7), No(7), No(7), No(6)]),
-        (Side::Sell, 99_800, [No(7), No(7), No(7), No(6)]),
+        (Side::Buy, 100_100, [Ok(8), Ok(8), Ok(8), Err(6)]),
+        (Side::Buy, 100_200, [Err(7), Err(7), Err(7), Err(6)]),
+        (Side::Buy, 100_300, [Err(7), Err(7), Err(7), Err(6)]),
+        (Side::Sell, 100_000, [Ok(8), Ok(8), Ok(8), Err(6)]),
+        (Side::Sell, 99_900, [Err(7), Err(7), Err(7), Err(6)]),
+        (Side::Sell, 99_800, [Err(7), Err(7), Err(7), Err(6)]),
     ];
     let book = busy_book()?;
     for (side, price, said) in CASES {
@@ -31,11 +30,11 @@ fn every_standing_displayed_order_is_looked_at(rt: HostRuntime) -> Result<(), Fa
         &VENUE,
         &mut book,
         &[
-            (enter(displayed(Side::Sell, 100_500, 1)), Yes(1)),
-            (enter(displayed(Side::Sell, 100_100, 1)), Yes(2)),
-            (enter(displayed(Side::Sell, 100_300, 1)), Yes(3)),
-            (enter(displayed(Side::Buy, 100_100, 1)), No(7)),
-            (enter(displayed(Side::Buy, 100_000, 1)), Yes(4)),
+            (enter(displayed(Side::Sell, 100_500, 1)), Ok(1)),
+            (enter(displayed(Side::Sell, 100_100, 1)), Ok(2)),
+            (enter(displayed(Side::Sell, 100_300, 1)), Ok(3)),
+            (enter(displayed(Side::Buy, 100_100, 1)), Err(7)),
+            (enter(displayed(Side::Buy, 100_000, 1)), Ok(4)),
         ],
     )
 }
@@ -48,12 +47,12 @@ fn closing_orders_of_the_other_side_are_not_looked_at(rt: HostRuntime) -> Result
         &VENUE,
         &mut book,
         &[
-            (enter(market(Side::Buy, 1)), Yes(1)),
-            (enter(market(Side::Sell, 1)), Yes(2)),
-            (enter(limit(Side::Buy, 101_000, 1)), Yes(3)),
-            (enter(limit(Side::Sell, 99_000, 1)), Yes(4)),
-            (enter(displayed(Side::Buy, 99_900, 1)), Yes(5)),
-            (enter(displayed(Side::Sell, 100_200, 1)), Yes(6)),
+            (enter(market(Side::Buy, 1)), Ok(1)),
+            (enter(market(Side::Sell, 1)), Ok(2)),
+            (enter(limit(Side::Buy, 101_000, 1)), Ok(3)),
+            (enter(limit(Side::Sell, 99_000, 1)), Ok(4)),
+            (enter(displayed(Side::Buy, 99_900, 1)), Ok(5)),
+            (enter(displayed(Side::Sell, 100_200, 1)), Ok(6)),
         ],
     )
 }
@@ -63,9 +62,9 @@ fn closing_orders_of_the_other_side_are_not_looked_at(rt: HostRuntime) -> Result
 fn a_closing_order_may_cross_the_quote(rt: HostRuntime) -> Result<(), Fail> {
     let book = busy_book()?;
     let buy = enter(limit(Side::Buy, 100_300, 1));
-    by_phase(&rt, &book, buy, [Yes(8); 4])?;
+    by_phase(&rt, &book, buy, [Ok(8); 4])?;
     let sell = enter(limit(Side::Sell, 99_800, 1));
-    by_phase(&rt, &book, sell, [Yes(8), Yes(8), Yes(8), No(8)])
+    by_phase(&rt, &book, sell, [Ok(8), Ok(8), Ok(8), Err(8)])
 }
 
 #[test]
@@ -76,14 +75,14 @@ fn an_order_with_nothing_left_is_not_looked_at(rt: HostRuntime) -> Result<(), Fa
         &VENUE,
         &mut book,
         &[
-            (enter(displayed(Side::Sell, 100_200, 100)), Yes(1)),
-            (take(1, 99), Yes(1)),
-            (enter(displayed(Side::Buy, 100_200, 1)), No(7)),
-            (take(1, 1), Yes(0)),
-            (enter(displayed(Side::Buy, 100_200, 1)), Yes(2)),
-            (enter(displayed(Side::Sell, 100_200, 1)), No(7)),
-            (cancel(2), Yes(1)),
-            (enter(displayed(Side::Sell, 100_200, 1)), Yes(3)),
+            (enter(displayed(Side::Sell, 100_200, 100)), Ok(1)),
+            (take(1, 99), Ok(1)),
+            (enter(displayed(Side::Buy, 100_200, 1)), Err(7)),
+            (take(1, 1), Ok(0)),
+            (enter(displayed(Side::Buy, 100_200, 1)), Ok(2)),
+            (enter(displayed(Side::Sell, 100_200, 1)), Err(7)),
+            (cancel(2), Ok(1)),
+            (enter(displayed(Side::Sell, 100_200, 1)), Ok(3)),
         ],
     )
 }

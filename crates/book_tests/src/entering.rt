@@ -1,6 +1,5 @@
 // Entering an order: its volume, its price, its kind and its flag.
-use crate::asking::Said::{No, Yes};
-use crate::asking::{Said, by_phase, order_fields, order_is};
+use crate::asking::{Said, by_phase, order_is};
 use crate::samples::{VENUE, busy_book, displayed, empty_book, enter, in_phase, limit, market};
 use orders::table::Order;
 use orders::{Entry, Kind, PegFlag, Phase, Side};
@@ -9,11 +8,11 @@ use std::test::Fail;
 #[test]
 fn volumes_are_from_1_to_9_999_999(rt: HostRuntime) -> Result<(), Fail> {
     const CASES: [(u32, [Said; 4]); 5] = [
-        (0, [No(4); 4]),
-        (1, [Yes(8); 4]),
-        (9_999_999, [Yes(8), Yes(8), Yes(8), No(9)]),
-        (10_000_000, [No(4); 4]),
-        (u32::MAX, [No(4); 4]),
+        (0, [Err(4); 4]),
+        (1, [Ok(8); 4]),
+        (9_999_999, [Ok(8), Ok(8), Ok(8), Err(9)]),
+        (10_000_000, [Err(4); 4]),
+        (u32::MAX, [Err(4); 4]),
     ];
     let book = busy_book()?;
     for (volume, said) in CASES {
@@ -26,17 +25,17 @@ fn volumes_are_from_1_to_9_999_999(rt: HostRuntime) -> Result<(), Fail> {
 #[test]
 fn a_limit_is_on_the_grid(rt: HostRuntime) -> Result<(), Fail> {
     const CASES: [(u32, [Said; 4]); 11] = [
-        (0, [No(5); 4]),
-        (1, [No(5); 4]),
-        (50, [Yes(8), Yes(8), Yes(8), No(10)]),
-        (4_950, [Yes(8), Yes(8), Yes(8), No(10)]),
-        (4_951, [No(5); 4]),
-        (5_000, [Yes(8), Yes(8), Yes(8), No(10)]),
-        (5_050, [No(5); 4]),
-        (100_000, [Yes(8); 4]),
-        (100_001, [No(5); 4]),
-        (1_000_000_000, [Yes(8), Yes(8), Yes(8), No(10)]),
-        (1_000_000_100, [No(5); 4]),
+        (0, [Err(5); 4]),
+        (1, [Err(5); 4]),
+        (50, [Ok(8), Ok(8), Ok(8), Err(10)]),
+        (4_950, [Ok(8), Ok(8), Ok(8), Err(10)]),
+        (4_951, [Err(5); 4]),
+        (5_000, [Ok(8), Ok(8), Ok(8), Err(10)]),
+        (5_050, [Err(5); 4]),
+        (100_000, [Ok(8); 4]),
+        (100_001, [Err(5); 4]),
+        (1_000_000_000, [Ok(8), Ok(8), Ok(8), Err(10)]),
+        (1_000_000_100, [Err(5); 4]),
     ];
     let book = busy_book()?;
     for (price, said) in CASES {
@@ -48,11 +47,11 @@ fn a_limit_is_on_the_grid(rt: HostRuntime) -> Result<(), Fail> {
 #[test]
 fn the_price_of_a_displayed_order_is_on_the_grid(rt: HostRuntime) -> Result<(), Fail> {
     const CASES: [(u32, [Said; 4]); 5] = [
-        (0, [No(5); 4]),
-        (4_950, [Yes(8), Yes(8), Yes(8), No(6)]),
-        (4_951, [No(5); 4]),
-        (5_000, [Yes(8), Yes(8), Yes(8), No(6)]),
-        (5_050, [No(5); 4]),
+        (0, [Err(5); 4]),
+        (4_950, [Ok(8), Ok(8), Ok(8), Err(6)]),
+        (4_951, [Err(5); 4]),
+        (5_000, [Ok(8), Ok(8), Ok(8), Err(6)]),
+        (5_050, [Err(5); 4]),
     ];
     let book = busy_book()?;
     for (price, said) in CASES {
@@ -64,9 +63,9 @@ fn the_price_of_a_displayed_order_is_on_the_grid(rt: HostRuntime) -> Result<(), 
 #[test]
 fn the_price_of_a_market_order_is_0(rt: HostRuntime) -> Result<(), Fail> {
     const CASES: [(u32, [Said; 4]); 3] = [
-        (0, [Yes(8), Yes(8), No(6), No(6)]),
-        (1, [No(5); 4]),
-        (100_000, [No(5); 4]),
+        (0, [Ok(8), Ok(8), Err(6), Err(6)]),
+        (1, [Err(5); 4]),
+        (100_000, [Err(5); 4]),
     ];
     let book = busy_book()?;
     for (price, said) in CASES {
@@ -88,20 +87,20 @@ fn each_phase_admits_its_kinds(rt: HostRuntime) -> Result<(), Fail> {
         (
             Kind::Market,
             0,
-            [Yes(8), Yes(8), No(6), No(6)],
-            [Yes(8), Yes(8), No(6), No(6)],
+            [Ok(8), Ok(8), Err(6), Err(6)],
+            [Ok(8), Ok(8), Err(6), Err(6)],
         ),
         (
             Kind::Displayed,
             99_900,
-            [Yes(8), Yes(8), Yes(8), No(6)],
-            [Yes(8), Yes(8), Yes(8), No(6)],
+            [Ok(8), Ok(8), Ok(8), Err(6)],
+            [Ok(8), Ok(8), Ok(8), Err(6)],
         ),
         (
             Kind::Limit,
             99_900,
-            [Yes(8), Yes(8), Yes(8), Yes(8)],
-            [Yes(8), Yes(8), No(6), Yes(8)],
+            [Ok(8), Ok(8), Ok(8), Ok(8)],
+            [Ok(8), Ok(8), Err(6), Ok(8)],
         ),
     ];
     let book = busy_book()?;
@@ -132,7 +131,7 @@ fn orders_are_numbered_in_turn(rt: HostRuntime) -> Result<(), Fail> {
 
 #[test]
 fn an_order_is_recorded_as_it_was_entered(rt: HostRuntime) -> Result<(), Fail> {
-    let mut book = in_phase(&busy_book()?, Phase::Imbalance);
+    let mut book = in_phase(&busy_book()?, Phase::Imbalance)?;
     let entry = Entry {
         kind: Kind::Limit,
         side: Side::Sell,
@@ -155,6 +154,6 @@ fn an_order_is_recorded_as_it_was_entered(rt: HostRuntime) -> Result<(), Fail> {
         left: 250,
         phase: Phase::Imbalance,
     };
-    assert_eq!(rt; order_fields(&recorded), order_fields(&expected));
+    assert_eq!(rt; recorded, expected);
     Ok(())
 }

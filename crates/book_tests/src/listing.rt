@@ -1,5 +1,4 @@
 // A day on a grid of five prices, under rule P.
-use crate::asking::Said::{No, Yes};
 use crate::asking::{in_turn, totals_are};
 use crate::samples::{amend, displayed, enter, limit};
 use book::requests::Request;
@@ -40,15 +39,15 @@ fn every_limit_is_a_listed_price(rt: HostRuntime) -> Result<(), Fail> {
         &venue,
         &mut book,
         &[
-            (enter(limit(Side::Buy, 99_001, 100)), Yes(1)),
-            (enter(limit(Side::Buy, 99_000, 100)), No(5)),
-            (enter(displayed(Side::Buy, 90_000, 100)), Yes(2)),
-            (enter(displayed(Side::Sell, 100_000, 100)), No(5)),
-            (enter(displayed(Side::Sell, 101_001, 100)), Yes(3)),
-            (amend(1, 100_000), No(5)),
-            (Request::Advance, Yes(1)),
-            (amend(1, 90_000), No(14)),
-            (amend(1, 100_001), Yes(4)),
+            (enter(limit(Side::Buy, 99_001, 100)), Ok(1)),
+            (enter(limit(Side::Buy, 99_000, 100)), Err(5)),
+            (enter(displayed(Side::Buy, 90_000, 100)), Ok(2)),
+            (enter(displayed(Side::Sell, 100_000, 100)), Err(5)),
+            (enter(displayed(Side::Sell, 101_001, 100)), Ok(3)),
+            (amend(1, 100_000), Err(5)),
+            (Request::Advance, Ok(1)),
+            (amend(1, 90_000), Err(14)),
+            (amend(1, 100_001), Ok(4)),
         ],
     )
 }
@@ -63,11 +62,11 @@ fn a_peg_is_a_listed_price(rt: HostRuntime) -> Result<(), Fail> {
         &venue,
         &mut book,
         &[
-            (enter(displayed(Side::Buy, 90_000, 100)), Yes(1)),
-            (enter(displayed(Side::Sell, 101_001, 100)), Yes(2)),
-            (Request::Advance, Yes(1)),
-            (Request::Advance, Yes(2)),
-            (enter(limit(Side::Buy, 101_001, 10)), Yes(3)),
+            (enter(displayed(Side::Buy, 90_000, 100)), Ok(1)),
+            (enter(displayed(Side::Sell, 101_001, 100)), Ok(2)),
+            (Request::Advance, Ok(1)),
+            (Request::Advance, Ok(2)),
+            (enter(limit(Side::Buy, 101_001, 10)), Ok(3)),
         ],
     )?;
     totals_are(&rt, &venue, &book, &[(99_001, 10, 0), (100_001, 0, 0)])

@@ -1,5 +1,4 @@
 // Opening a book.
-use crate::asking::Said::{No, Yes};
 use crate::asking::{Said, book_fields};
 use crate::samples::VENUE;
 use book::Book;
@@ -7,24 +6,24 @@ use std::test::Fail;
 
 fn open(close: u32) -> Said {
     match Book::open(&VENUE, close) {
-        Ok(_) => Yes(0),
-        Err(refusal) => No(refusal.number()),
+        Ok(_) => Ok(0),
+        Err(refusal) => Err(refusal.number()),
     }
 }
 
 #[test]
 fn the_previous_close_is_on_the_grid(rt: HostRuntime) {
     const CASES: [(u32, Said); 10] = [
-        (0, No(1)),
-        (49, No(1)),
-        (50, Yes(0)),
-        (4_950, Yes(0)),
-        (4_951, No(1)),
-        (5_000, Yes(0)),
-        (5_050, No(1)),
-        (1_000_000_000, Yes(0)),
-        (1_000_000_100, No(1)),
-        (u32::MAX, No(1)),
+        (0, Err(1)),
+        (49, Err(1)),
+        (50, Ok(0)),
+        (4_950, Ok(0)),
+        (4_951, Err(1)),
+        (5_000, Ok(0)),
+        (5_050, Err(1)),
+        (1_000_000_000, Ok(0)),
+        (1_000_000_100, Err(1)),
+        (u32::MAX, Err(1)),
     ];
     for (close, said) in CASES {
         assert_eq!(rt; open(close), said);

@@ -1,5 +1,4 @@
 // Places for orders, and entry numbers: both can be used up.
-use crate::asking::Said::{No, Yes};
 use crate::asking::{by_phase, in_turn};
 use crate::samples::{VENUE, amend, busy_book, cancel, empty_book, enter, limit, take};
 use book::Book;
@@ -17,8 +16,8 @@ fn book_of(orders: u16) -> Result<Book, Fail> {
 #[test]
 fn the_book_has_places_for_128_orders(rt: HostRuntime) -> Result<(), Fail> {
     let order = enter(limit(Side::Buy, 100_000, 1));
-    by_phase(&rt, &book_of(127)?, order, [Yes(128); 4])?;
-    by_phase(&rt, &book_of(128)?, order, [No(3); 4])
+    by_phase(&rt, &book_of(127)?, order, [Ok(128); 4])?;
+    by_phase(&rt, &book_of(128)?, order, [Err(3); 4])
 }
 
 #[test]
@@ -29,10 +28,10 @@ fn a_cancelled_order_keeps_its_place(rt: HostRuntime) -> Result<(), Fail> {
         &VENUE,
         &mut book,
         &[
-            (cancel(128), Yes(100)),
-            (enter(limit(Side::Buy, 100_000, 1)), No(3)),
-            (cancel(128), No(12)),
-            (amend(127, 100_100), Yes(129)),
+            (cancel(128), Ok(100)),
+            (enter(limit(Side::Buy, 100_000, 1)), Err(3)),
+            (cancel(128), Err(12)),
+            (amend(127, 100_100), Ok(129)),
         ],
     )
 }
@@ -42,25 +41,15 @@ fn there_are_1_000_000_entry_numbers(rt: HostRuntime) -> Result<(), Fail> {
     let mut book = busy_book()?;
     let order = enter(limit(Side::Buy, 100_000, 1));
     book.entries = 999_999;
-    by_phase(&rt, &book, order, [Yes(8); 4])?;
-    let said = [Yes(1_000_000), Yes(1_000_000), No(13), No(13)];
+    by_phase(&rt, &book, order, [Ok(8); 4])?;
+    let said = [Ok(1_000_000), Ok(1_000_000), Err(13), Err(13)];
     by_phase(&rt, &book, amend(3, 100_900), said)?;
     book.entries = 1_000_000;
-    by_phase(&rt, &book, order, [No(3); 4])?;
-    by_phase(&rt, &book, amend(3, 100_900), [No(3); 4])?;
+    by_phase(&rt, &book, order, [Err(3); 4])?;
+    by_phase(&rt, &book, amend(3, 100_900), [Err(3); 4])?;
     // cancels and takes need none
-    by_phase(
-        &rt,
-        &book,
-        cancel(4),
-        [Yes(400), Yes(400), Yes(400), No(13)],
-    )?;
-    by_phase(
-        &rt,
-        &book,
-        take(4, 1),
-        [Yes(399), Yes(399), Yes(399), No(13)],
-    )
+    by_phase(&rt, &book, cancel(4), [Ok(400), Ok(400), Ok(400), Err(13)])?;
+    by_phase(&rt, &book, take(4, 1), [Ok(399), Ok(399), Ok(399), Err(13)])
 }
 
 #[test]
@@ -72,10 +61,10 @@ fn the_last_entry_number_is_given_once(rt: HostRuntime) -> Result<(), Fail> {
         &VENUE,
         &mut book,
         &[
-            (enter(limit(Side::Buy, 100_000, 1)), Yes(8)),
-            (amend(8, 100_100), Yes(1_000_000)),
-            (amend(8, 100_200), No(3)),
-            (enter(limit(Side::Buy, 100_000, 1)), No(3)),
+            (enter(limit(Side::Buy, 100_000, 1)), Ok(8)),
+            (amend(8, 100_100), Ok(1_000_000)),
+            (amend(8, 100_200), Err(3)),
+            (enter(limit(Side::Buy, 100_000, 1)), Err(3)),
         ],
     )
 }

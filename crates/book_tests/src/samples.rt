@@ -1,4 +1,5 @@
-// The entries, requests and books that the examples begin with.
+// The entries, requests and books that the examples begin with. They stand in each crate of tests: a crate of helpers would
+// have public functions that promise nothing.
 use book::requests::Request;
 use book::{Book, State, Venue};
 use grid::Cents;
@@ -85,11 +86,10 @@ fn state_in(phase: Phase) -> State {
 }
 
 // The book in a phase. An extension advertises 300 shares to sell.
-pub fn in_phase(book: &Book, phase: Phase) -> Book {
-    Book {
-        state: state_in(phase),
-        ..*book
-    }
+pub fn in_phase(book: &Book, phase: Phase) -> Result<Book, Fail> {
+    let mut book = book.clone()?;
+    book.state = state_in(phase);
+    Ok(book)
 }
 
 // A previous close of 10.00 dollars, and no orders.

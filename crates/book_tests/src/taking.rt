@@ -1,5 +1,4 @@
 // Taking shares of a displayed order.
-use crate::asking::Said::{No, Yes};
 use crate::asking::{Said, book_fields, by_phase, in_turn, order_is};
 use crate::samples::{VENUE, amend, busy_book, take};
 use std::test::Fail;
@@ -7,18 +6,18 @@ use std::test::Fail;
 #[test]
 fn a_displayed_order_that_stands_is_taken_up_to_the_freeze(rt: HostRuntime) -> Result<(), Fail> {
     const CASES: [(u16, [Said; 4]); 10] = [
-        (0, [No(11); 4]),
-        (8, [No(11); 4]),
-        (u16::MAX, [No(11); 4]),
+        (0, [Err(11); 4]),
+        (8, [Err(11); 4]),
+        (u16::MAX, [Err(11); 4]),
         // cancelled, and taken whole
-        (6, [No(12); 4]),
-        (7, [No(12); 4]),
+        (6, [Err(12); 4]),
+        (7, [Err(12); 4]),
         // a market order, two limit orders and two displayed ones
-        (1, [No(13); 4]),
-        (2, [No(13); 4]),
-        (3, [No(13); 4]),
-        (4, [Yes(399), Yes(399), Yes(399), No(13)]),
-        (5, [Yes(499), Yes(499), Yes(499), No(13)]),
+        (1, [Err(13); 4]),
+        (2, [Err(13); 4]),
+        (3, [Err(13); 4]),
+        (4, [Ok(399), Ok(399), Ok(399), Err(13)]),
+        (5, [Ok(499), Ok(499), Ok(499), Err(13)]),
     ];
     let book = busy_book()?;
     for (number, said) in CASES {
@@ -31,12 +30,12 @@ fn a_displayed_order_that_stands_is_taken_up_to_the_freeze(rt: HostRuntime) -> R
 #[test]
 fn from_one_share_to_all_that_is_left_are_taken(rt: HostRuntime) -> Result<(), Fail> {
     const CASES: [(u32, [Said; 4]); 6] = [
-        (0, [No(15), No(15), No(15), No(13)]),
-        (1, [Yes(399), Yes(399), Yes(399), No(13)]),
-        (399, [Yes(1), Yes(1), Yes(1), No(13)]),
-        (400, [Yes(0), Yes(0), Yes(0), No(13)]),
-        (401, [No(15), No(15), No(15), No(13)]),
-        (u32::MAX, [No(15), No(15), No(15), No(13)]),
+        (0, [Err(15), Err(15), Err(15), Err(13)]),
+        (1, [Ok(399), Ok(399), Ok(399), Err(13)]),
+        (399, [Ok(1), Ok(1), Ok(1), Err(13)]),
+        (400, [Ok(0), Ok(0), Ok(0), Err(13)]),
+        (401, [Err(15), Err(15), Err(15), Err(13)]),
+        (u32::MAX, [Err(15), Err(15), Err(15), Err(13)]),
     ];
     let book = busy_book()?;
     for (volume, said) in CASES {
@@ -53,13 +52,13 @@ fn takes_add_up(rt: HostRuntime) -> Result<(), Fail> {
         &VENUE,
         &mut book,
         &[
-            (take(4, 150), Yes(250)),
-            (take(4, 251), No(15)),
-            (take(4, 249), Yes(1)),
-            (take(4, 2), No(15)),
-            (take(4, 1), Yes(0)),
-            (take(4, 1), No(12)),
-            (amend(4, 100_000), No(12)),
+            (take(4, 150), Ok(250)),
+            (take(4, 251), Err(15)),
+            (take(4, 249), Ok(1)),
+            (take(4, 2), Err(15)),
+            (take(4, 1), Ok(0)),
+            (take(4, 1), Err(12)),
+            (amend(4, 100_000), Err(12)),
         ],
     )
 }

@@ -1,5 +1,6 @@
 -- Why no displayed buy ever meets a displayed sell.
 use Rattle.std.proofs.Common.{◌≡◌, ℕ, zero, suc, ◌<◌, Bool, true, false, not, ◌&&◌, ltb, List, [], ◌∷◌, length, get_or, sym, refl, ap, ◌∙◌, arith}
+use Rattle.std.specs.List.{list_any}
 use Rattle.std.proofs.lemmas.List.{length-map, get_or-map}
 use Rattle.std.proofs.lemmas.Bool.{and_parts, or_parts, leb-false, ltb-true, lt-ltb}
 use Rattle.orders.specs.Kinds.{is_displayed, same_side}
@@ -11,7 +12,7 @@ use Rattle.orders.specs.declared.Phase.TheVariants as phase
 use Rattle.orders.specs.declared.Side.{Side}
 use Rattle.orders.specs.declared.Side.TheVariants.{Buy, Sell}
 use Rattle.auction.specs.Totals.{reaches}
-use Rattle.book.specs.Calls.{meets, any, crosses}
+use Rattle.book.specs.Calls.{meets, crosses}
 use Rattle.book.specs.Phases.{amends}
 use Rattle.reference.specs.Quote.{makes_quote, quotes_on}
 use Rattle.day.specs.Account.{Line, Account, left, order_of, orders, no_line}
@@ -46,7 +47,7 @@ undisplayed phase.Extension Displayed e = no e
 undisplayed phase.Closed Displayed e = no e
 
 -- no element passes a test that none passes
-none_passes : {A : Type 0} (test : A → Bool) (xs : List A) (i : ℕ) (d : A) → any test xs ≡ false → i < length xs → test (get_or xs i d) ≡ false
+none_passes : {A : Type 0} (test : A → Bool) (xs : List A) (i : ℕ) (d : A) → list_any test xs ≡ false → i < length xs → test (get_or xs i d) ≡ false
 none_passes test [] i d none h = absurd (omega (arith, h))
 none_passes test (x ∷ xs) zero d none h = (or_parts (test x) _ none).0
 none_passes test (x ∷ xs) (suc i) d none h = none_passes test xs i d (or_parts (test x) _ none).1 (omega (arith, h))
@@ -75,7 +76,7 @@ clear_of_each a l e kind side limit none j h = ((λ buys sells. rw limit (below_
 
     not_met : (s : Side) → quotes_on s (order_of l) ≡ true → meets e.side e.limit (order_of other) ≡ false
     not_met s q =
-        let all : any (meets e.side e.limit) (orders a) ≡ false = ap (λ t. t && any (meets e.side e.limit) (orders a)) (sym (displayed s q)) ∙ none in
+        let all : list_any (meets e.side e.limit) (orders a) ≡ false = ap (λ t. t && list_any (meets e.side e.limit) (orders a)) (sym (displayed s q)) ∙ none in
         let here = none_passes (meets e.side e.limit) (orders a) j (order_of no_line) all (omega (arith, h, length-map a.lines order_of)) in
         ap (meets e.side e.limit) (sym (get_or-map order_of a.lines j no_line (order_of no_line) h)) ∙ here
 

@@ -26,10 +26,8 @@ pub fn run<G: Grid, R: PairingRule>(
     ensures { MatchResult result (Ran (G.PriceSet.holds venue.now.grid) previous_close turns.old turns.new) (Unopened (G.PriceSet.holds venue.now.grid) previous_close turns.old turns.new) }
 {
     let mut book = Book::open(venue, previous_close)?;
-    for i in 0..turns.len() {
-        let request = turns[i].request;
-        let answer = book.request(venue, request);
-        turns[i] = Turn { request, answer };
+    for turn in turns {
+        turn.answer = book.request(venue, turn.request);
     }
     Ok(book)
 }

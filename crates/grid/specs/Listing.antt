@@ -1,10 +1,10 @@
 -- The prices of a `Listed`, and the number of its refusal.
-use Rattle.std.specs.Prelude.{ℕ, List, take}
+use Rattle.std.specs.Prelude.{ℕ, List}
 use Rattle.grid.specs.declared.listed.Listed.{Listed}
 use Rattle.grid.specs.declared.listed.NotAGrid.{NotAGrid}
 
 abbrev pub listed : Listed → List ℕ
-listed g = take g.count g.prices
+listed g = g.prices.items
 
 abbrev pub grid_number : NotAGrid → ℕ
 grid_number fault = 1

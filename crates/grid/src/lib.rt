@@ -11,7 +11,8 @@ pub mod listed;
 pub trait PriceSet {
     ghost holds: { Self → ℕ → Bool };
 
-    // The least price of the set at or above `n`, and 0 where there is none.
+    // The least price of the set at or above `n`, and 0 where there is none. It is no `Option`, since the rules of this project
+    // lay the 0 down; bands, pegs and the search hand it on as it is.
     fn at_or_above(&self, n: u32) -> u32
         ensures { AtOrAbove (holds self.now) n result };
 
@@ -33,7 +34,10 @@ pub trait Grid: PriceSet {
 
 const FIRST: u32 = 50;
 
-const LAST: u32 = 1_000_000_000;
+// No price of any set is above this.
+pub(crate) const HIGHEST: u32 = 1_000_000_000;
+
+const LAST: u32 = HIGHEST;
 
 // Half-cent steps below 0.50 dollars and cents from there.
 #[derive(Clone, Copy)]
@@ -72,7 +76,23 @@ impl Grid for Cents {
     }
 }
 
-// The prices of a set from `low` to `high`.
+// A set that is lent is the set.
+impl<S: PriceSet> PriceSet for &S {
+    ghost holds = { λ s. S.PriceSet.holds s.now };
+
+    ghost ranged = { λ s. S.PriceSet.ranged s.now };
+
+    fn at_or_above(&self, n: u32) -> u32 {
+        (**self).at_or_above(n)
+    }
+
+    fn at_or_below(&self, n: u32) -> u32 {
+        (**self).at_or_below(n)
+    }
+}
+
+// The prices of a set from `low` to `high`. It answers 0 as its set does. Low and high stay two fields here, and two of a
+// `PriceRange`: a struct for both would be no plainer, since the two types are made and read apart.
 #[derive(Clone, Copy)]
 pub struct Band<S> {
     pub prices: S,

@@ -1,15 +1,13 @@
 // Prints the readable text of the order file on standard input.
 #![tactic(auto)]
 
-use std::io::Read;
+use orderfile::input::read_bytes;
 
-// One byte more than the longest file, so that a longer one is seen to be too long.
-const MOST: u64 = 65_537;
-
+// `imbalance` differs in one call: one function for both would be no plainer, since it takes a closure for that call and can promise
+// nothing of what is printed.
 fn run(rt: &HostRuntime) -> anyhow::Result<()> {
     let heap = rt.alloc();
-    let mut file = Vec::new(heap);
-    rt.stdin().take(MOST).read_to_end(&mut file)?;
+    let file = read_bytes(heap, rt.stdin())?;
     let text = report::describe(heap, file.as_slice())?;
     rt.print(text.as_str())?;
     Ok(())

@@ -1,6 +1,7 @@
 -- An order that offsets all of an imbalance makes the two closing totals equal.
-use Rattle.std.proofs.Common.{◌≡◌, ℕ, ◌+◌, Bool, true, false, cond, ◌&&◌, List, [], ◌∷◌, ◌++◌, Some, None, refl, arith}
+use Rattle.std.proofs.Common.{◌≡◌, ℕ, ◌+◌, Bool, true, false, cond, ◌&&◌, List, [], ◌∷◌, ◌++◌, map, Some, None, refl, arith}
 use Rattle.std.proofs.lemmas.Bool.{both_ways}
+use Rattle.std.proofs.lemmas.List.Sums.{sum_by-cons}
 use Rattle.std.proofs.lemmas.Bool.Decides.{nat_tests}
 use Rattle.auction.specs.Totals.{reaches, trades, closing_at, apart}
 use Rattle.orders.specs.Kinds.{is_closing, is_market, same_side}
@@ -21,7 +22,7 @@ no_imbalance m n same =
     λ i. record { side = none i; volume = nothing i }
 
 -- a market order brings all its shares to its side
-market_brings : (k : Kind) (own side : Side) (reached : Bool) (n : ℕ) → is_market k ≡ true → cond (is_closing k) (cond (same_side own side && trades k reached) n 0) 0 ≡ cond (same_side own side) n 0
+market_brings : (k : Kind) (own side : Side) (reached : Bool) (n : ℕ) → is_market k ≡ true → cond (same_side own side && (is_closing k && trades k reached)) n 0 ≡ cond (same_side own side) n 0
 market_brings Market Buy Buy reached n market = refl
 market_brings Market Buy Sell reached n market = refl
 market_brings Market Sell Buy reached n market = refl
@@ -40,7 +41,8 @@ module _ (R : ℕ) where
   -- an order more adds its shares to each total
   one_more : (side : Side) (o : FoundOrder) (orders : List FoundOrder) → closing_at_reference side R (orders ++ (o ∷ [])) ≡ closing_at_reference side R orders + closing_at side R (doubled o)
   one_more side o [] = omega arith
-  one_more side o (x ∷ xs) = omega (arith, one_more side o xs)
+  one_more side o (x ∷ xs) =
+      omega (arith, one_more side o xs, sum_by-cons (closing_at side R) (doubled x) (map doubled xs), sum_by-cons (closing_at side R) (doubled x) (map doubled (xs ++ (o ∷ []))))
 
   pub evens_out : (orders : List FoundOrder) (i : Imbalance) → Leans (closing_at_reference Buy R orders) (closing_at_reference Sell R orders) i → EvensOut R orders i
   evens_out orders i l o off =

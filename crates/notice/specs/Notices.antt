@@ -1,7 +1,6 @@
 -- The imbalance notice. R is twice the reference throughout.
-use Rattle.std.specs.Prelude.{ℕ, ◌*◌, min, cond, ◌&&◌, List, map, Some, None, Option, nat_lt}
-use Rattle.auction.specs.Totals.{sum, closing_total, apart}
-use Rattle.orders.specs.Kinds.{is_market, same_side}
+use Rattle.std.specs.Prelude.{ℕ, ◌*◌, min, cond, List, map, Some, None, Option, nat_lt}
+use Rattle.auction.specs.Totals.{closing_total, market_total, apart}
 use Rattle.orders.specs.declared.Side.{Side}
 use Rattle.orders.specs.declared.Side.TheVariants.{Buy, Sell}
 use Rattle.orders.specs.declared.found.FoundOrder.{FoundOrder}
@@ -19,13 +18,6 @@ doubled o =
 -- more, sells with one of R or less
 abbrev pub closing_at_reference : Side → ℕ → List FoundOrder → ℕ
 closing_at_reference side R orders = closing_total side R (map doubled orders)
-
--- the shares that an order brings to a side if it is a market order
-abbrev pub market_shares : Side → FoundOrder → ℕ
-market_shares side o = cond (same_side o.side side && is_market o.kind) o.shares 0
-
-abbrev pub market_total : Side → List FoundOrder → ℕ
-market_total side = sum (market_shares side)
 
 -- the side with more shares, none where they are equal
 abbrev pub heavier : ℕ → ℕ → Option Side

@@ -1,8 +1,11 @@
 use super::*;
+use auction::found::FoundOrders;
+use orders::found::FoundOrder;
 use orders::table::Order;
 use orders::{Kind, PegFlag, Phase};
 use std::process::Abort;
 
+// These orders stand in each crate of tests: a crate of helpers would have public functions that promise nothing.
 fn found(kind: Kind, side: Side, standing: u32, shares: u32) -> FoundOrder {
     FoundOrder {
         number: 1,
@@ -61,7 +64,10 @@ fn quote(bid: u32, offer: u32) -> Reference {
 fn leans(rt: &impl Abort, reference: Reference, order: FoundOrder, side: Option<Side>) {
     let volume = if side.is_some() { 10 } else { 0 };
     assert_eq!(rt;
-        imbalance_at_reference(reference, &book(&[order])),
+        imbalance_at_reference(&Auction {
+            reference,
+            orders: &book(&[order])
+        }),
         Imbalance { side, volume }
     );
 }
@@ -140,13 +146,23 @@ fn a_notice_shows_what_is_paired_and_what_is_left(rt: HostRuntime) {
             volume: 200,
         },
     };
-    assert_eq!(rt; Notice::of(reference, &orders), notice);
+    assert_eq!(rt;
+        Notice::of(&Auction {
+            reference,
+            orders: &orders
+        }),
+        notice
+    );
 }
 
 #[test]
 fn equal_totals_have_no_side(rt: HostRuntime) {
     let orders = book(&[market(Side::Buy, 100), limit(Side::Sell, 100_000, 100)]);
-    let notice = Notice::of(quote(99_900, 100_200), &orders);
+    let reference = quote(99_900, 100_200);
+    let notice = Notice::of(&Auction {
+        reference,
+        orders: &orders,
+    });
     assert_eq!(rt; notice.imbalance.side, None);
     assert_eq!(rt; notice.imbalance.volume, 0);
     assert_eq!(rt; notice.paired, 100);

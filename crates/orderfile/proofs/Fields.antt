@@ -1,16 +1,11 @@
--- A body reads as its letter and its fields do.
-use Rattle.std.proofs.Common.{◌≡◌, ℕ, ◌-◌, ◌<◌, ◌≤◌, List, [], ◌∷◌, length, get_or, take, drop, Result, sym, ap, ◌∙◌, arith}
+-- The fields of an enter message read as the numbers and the reference in them.
+use Rattle.std.proofs.Common.{◌≡◌, ℕ, ◌-◌, ◌≤◌, List, length, get_or, take, drop, Result, sym, ◌∙◌, arith}
 use Rattle.std.proofs.lemmas.List.{take_rest}
 use Rattle.std.proofs.lemmas.Bool.Decides.{nat_tests}
 use Rattle.orders.specs.Letters.{kind_of, side_of, flag_of}
-use Rattle.orderfile.specs.Bodies.{Content, read_order, read_enter, read_fields, read_body}
+use Rattle.orderfile.specs.Bodies.{Content, read_order, read_enter}
 use Rattle.orderfile.specs.Numbers.{number_at}
 use Rattle.orderfile.specs.declared.faults.MessageFault.{MessageFault}
-
--- `fields` is what the pattern `[letter, fields @ ..]` leaves of a body
-pub opened : (body : List ℕ) → 0 < length body → (r : Result Content MessageFault) → r ≡ read_fields (get_or body 0 0) (take (length body - 1) (drop 1 body)) → r ≡ read_body body
-opened [] some r e = absurd (omega arith)
-opened (letter ∷ fields) some r e = e ∙ ap (read_fields letter) (take_rest (letter ∷ fields) 1)
 
 module _ (fields : List ℕ) (long : 13 ≤ length fields) (short : length fields ≤ 33) where
   abbrev order : ℕ → ℕ → ℕ → List ℕ → Result Content MessageFault

@@ -16,7 +16,8 @@ use Rattle.orderfile.specs.declared.file.OrderFile.{OrderFile}
 use Rattle.orderfile.specs.declared.file.Rule.{Rule}
 use Rattle.orderfile.specs.declared.file.Rule.TheVariants.{V, P}
 use Rattle.orderfile.proofs.Framing.{Cut, cuts, cut_back, one_way}
-use Rattle.orderfile.proofs.Meaning.{meant, means}
+use Rattle.orders.proofs.Reading.{meant}
+use Rattle.orderfile.proofs.Meaning.{means}
 use Rattle.orderfile.proofs.Written.{bytes_drop, number_fits, rewritten, read_back}
 
 -- the file begins with this head, within the limits

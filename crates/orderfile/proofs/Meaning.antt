@@ -3,7 +3,7 @@ use Rattle.std.proofs.Common.{◌≡◌, ℕ, suc, ◌+◌, ◌≤◌, cond, ◌
 use Prim.Native.String.{String}
 use Rattle.std.proofs.lemmas.List.{append-nil, drop_all, drop_more, length-drop, nil_from_length}
 use Rattle.std.proofs.lemmas.Bool.{and_from, and_parts, cond_both, cond-true, eqb-true, le-leb, leb-true}
-use Rattle.orders.specs.Letters.{ascii, lettered, kinds, sides, flags, kind_letter, side_letter, flag_letter, kind_of, side_of, flag_of}
+use Rattle.orders.specs.Letters.{ascii, kinds, sides, flags, kind_letter, side_letter, flag_letter, kind_of, side_of, flag_of}
 use Rattle.orders.specs.declared.Kind.{Kind}
 use Rattle.orders.specs.declared.Kind.TheVariants.{Market, Limit, Displayed}
 use Rattle.orders.specs.declared.PegFlag.{PegFlag}
@@ -13,13 +13,8 @@ use Rattle.orders.specs.declared.Side.TheVariants.{Buy, Sell}
 use Rattle.orderfile.specs.Bodies.{Content, enters, amends, cancels, takes, advances, calls, body_of, WellFormed, Means, reference_bytes, of_length, read_order, read_enter, read_fields, read_body}
 use Rattle.orderfile.specs.Numbers.{number_at, in_bytes, Bytes}
 use Rattle.orderfile.specs.declared.faults.MessageFault.{MessageFault}
+use Rattle.orders.proofs.Reading.{meant}
 use Rattle.orderfile.proofs.Written.{number_fits, rewritten, read_back}
-
--- the choice that a letter reads as has that letter
-pub meant : {A : Type 0} (letter : A → ℕ) (choices : List A) (b : ℕ) → IfSome (lettered letter choices b) (λ x. letter x ≡ b)
-meant letter [] b = tt
-meant letter (x ∷ xs) b =
-    cond_both (eqb b (letter x)) (Some x) (lettered letter xs b) (λ o. IfSome o (λ y. letter y ≡ b)) (λ e. sym (eqb-true b (letter x) e)) (λ _. meant letter xs b)
 
 -- what is read has the body's bytes, and is well-formed
 abbrev Sound : List ℕ → Result Content MessageFault → Type 0

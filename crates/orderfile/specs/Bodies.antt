@@ -1,5 +1,6 @@
 -- The body of a message: its letter, then its fields.
 use Rattle.std.specs.Prelude.{◌≡◌, ℕ, ◌^◌, ◌<◌, ◌≤◌, Bool, true, cond, ◌&&◌, ◌||◌, List, [], ◌∷◌, ◌++◌, length, drop, Some, None, Ok, Err, Option, Result, MatchResult, ◌==◌, ◌≢◌, nat_le, slice_index}
+use Rattle.std.specs.List.{list_all}
 use Rattle.std.specs.Result.{result_map_both}
 use Rattle.orders.specs.Letters.{ascii, kind_letter, side_letter, flag_letter, kind_of, side_of, flag_of}
 use Rattle.orders.specs.declared.Entry.{Entry}
@@ -37,8 +38,7 @@ abbrev pub reference_byte : ℕ → Bool
 reference_byte b = (nat_le (ascii "A") b && nat_le b (ascii "Z")) || (nat_le (ascii "0") b && nat_le b (ascii "9"))
 
 abbrev pub reference_bytes : List ℕ → Bool
-reference_bytes [] = true
-reference_bytes (b ∷ bs) = reference_byte b && reference_bytes bs
+reference_bytes = list_all reference_byte
 
 -- the bytes of a message: its letter, then its fields
 abbrev pub body_of : Content → List ℕ

@@ -1,5 +1,6 @@
 pub mod Numbers
 pub mod Faults
+pub mod Words
 pub mod Bodies
 pub mod Asking
 pub mod Format

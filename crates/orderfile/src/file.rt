@@ -1,19 +1,20 @@
 // Whole order files: the head, and the message of each body.
-ghost use Rattle.std.specs.Prelude.{◌≡◌, map};
+ghost use Rattle.std.specs.Prelude.{◌≡◌, map, refl};
 ghost use Rattle.std.specs.Result.{result_map_both};
-ghost use Rattle.orders.specs.Letters.{Reads};
 ghost use Rattle.orderfile.specs.Bodies.{told};
 ghost use Rattle.orderfile.specs.Format.{rule_letter};
 ghost use Rattle.orderfile.specs.Law.{ReadsTheFormat};
-ghost use Rattle.orderfile.specs.Reading.{rule_of, next_body, each_body, read_message, read_head, read_file, contents, UnlessMemory};
+ghost use Rattle.orderfile.specs.Reading.{rules, next_body, each_body, read_message, read_head, read_file, contents, UnlessMemory};
+ghost use Rattle.orderfile.specs.declared.file.Rule.TheVariants.{V, P};
 
 use crate::faults::FileFault;
 use crate::message::Message;
+use orders::letters::Lettered;
 use std::alloc::Global;
 
 const HEAD: usize = 7;
 
-const LONGEST_FILE: usize = 65_536;
+pub(crate) const LONGEST_FILE: usize = 65_536;
 
 const MOST_MESSAGES: u16 = 1_024;
 
@@ -37,25 +38,22 @@ pub struct OrderFile<'a> {
     pub messages: Vec<Result<Message<'a>, FileFault>>,
 }
 
-impl Rule {
-    pub fn letter(self) -> u8
-        ensures { result ≡ rule_letter self }
-    {
+impl Lettered for Rule {
+    ghost letter_of = { rule_letter };
+
+    ghost choices = { rules };
+
+    ghost reads_back = { elim [ V ↦ refl | P ↦ refl ] };
+
+    fn letter(self) -> u8 {
         match self {
             Rule::V => b'V',
             Rule::P => b'P',
         }
     }
 
-    pub fn from_letter(letter: u8) -> Option<Rule>
-        ensures value { result ≡ rule_of letter }
-        ensures meaning { Reads rule_letter letter result }
-    {
-        match letter {
-            b'V' => Some(Rule::V),
-            b'P' => Some(Rule::P),
-            _ => None,
-        }
+    fn choices() -> &'static [Rule] {
+        &[Rule::V, Rule::P]
     }
 }
 
@@ -90,7 +88,7 @@ fn read_messages<'a>(
 {
     let mut messages = Vec::new(heap);
     let mut rest = bytes;
-    while messages.len() < usize::from(count) {
+    for _ in 0..count {
         let (body, after) = split_body(rest)?;
         messages.push(read_message(body))?;
         rest = after;
@@ -111,9 +109,7 @@ impl Head {
         let [rule, p3, p2, p1, p0, n1, n0, ..] = file else {
             return Err(FileFault::ShortHead);
         };
-        let Some(rule) = Rule::from_letter(*rule) else {
-            return Err(FileFault::UnknownRule);
-        };
+        let rule = Rule::from_letter(*rule).ok_or(FileFault::UnknownRule)?;
         let count = u16::from_be_bytes([*n1, *n0]);
         if count > MOST_MESSAGES {
             return Err(FileFault::TooManyMessages);

@@ -4,4 +4,5 @@
 pub mod asking;
 pub mod faults;
 pub mod file;
+pub mod input;
 pub mod message;

@@ -4,6 +4,7 @@ ghost use Rattle.orders.specs.Letters.{kind_of, side_of, flag_of};
 ghost use Rattle.orderfile.specs.Bodies.{told, reference_byte, reference_bytes, read_order, read_enter, read_fields, read_body};
 
 use crate::faults::MessageFault;
+use orders::letters::Lettered;
 use orders::{Entry, Kind, PegFlag, Side};
 
 const LONGEST_REFERENCE: usize = 20;
@@ -29,12 +30,7 @@ fn is_reference_byte(b: u8) -> bool
 fn is_reference(bytes: &[u8]) -> bool
     ensures { result ≡ reference_bytes bytes.now }
 {
-    for b in bytes {
-        if !is_reference_byte(*b) {
-            return false;
-        }
-    }
-    true
+    bytes.iter().all(|b| is_reference_byte(*b))
 }
 
 // The order that an enter message asks for, if its letters and its reference are good.
@@ -49,15 +45,9 @@ fn enter<'a>(
 ) -> Result<Message<'a>, MessageFault>
     ensures { told result ≡ read_order (kind_of kind) (side_of side) (flag_of flag) broker limit volume reference.now }
 {
-    let Some(kind) = Kind::from_letter(kind) else {
-        return Err(MessageFault::BadKind);
-    };
-    let Some(side) = Side::from_letter(side) else {
-        return Err(MessageFault::BadSide);
-    };
-    let Some(flag) = PegFlag::from_letter(flag) else {
-        return Err(MessageFault::BadFlag);
-    };
+    let kind = Kind::from_letter(kind).ok_or(MessageFault::BadKind)?;
+    let side = Side::from_letter(side).ok_or(MessageFault::BadSide)?;
+    let flag = PegFlag::from_letter(flag).ok_or(MessageFault::BadFlag)?;
     if !is_reference(reference) {
         return Err(MessageFault::BadReference);
     }

@@ -1,5 +1,5 @@
 -- The letter that stands for each kind, side and peg flag in an order file.
-use Rattle.std.specs.Prelude.{◌≡◌, ℕ, cond, List, [], ◌∷◌, Some, None, codes, Option, MatchOption, ◌==◌, ◌≢◌, slice_index}
+use Rattle.std.specs.Prelude.{◌≡◌, ℕ, List, [], ◌∷◌, codes, find, Option, MatchOption, ◌==◌, ◌≢◌, slice_index}
 use Prim.Native.String.{String}
 use Rattle.orders.specs.declared.Kind.{Kind}
 use Rattle.orders.specs.declared.Kind.TheVariants.{Market, Limit, Displayed}
@@ -27,8 +27,7 @@ flag_letter NotPegged = ascii "N"
 
 -- the first of some choices that a letter stands for
 abbrev pub lettered : {A : Type 0} → (A → ℕ) → List A → ℕ → Option A
-lettered letter [] b = None
-lettered letter (x ∷ xs) b = cond (b == letter x) (Some x) (lettered letter xs b)
+lettered letter choices b = find (λ x. b == letter x) choices
 
 abbrev pub kinds : List Kind
 kinds = Market ∷ Limit ∷ Displayed ∷ []

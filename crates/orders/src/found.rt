@@ -6,7 +6,7 @@ use crate::table::Order;
 use crate::{Kind, Side};
 
 // An order as a call finds it: where it stands, and the shares that it brings.
-#[derive(Clone, Copy)]
+#[derive(Clone, Copy, Default)]
 pub struct FoundOrder {
     pub number: u16,
     pub entry: u32,

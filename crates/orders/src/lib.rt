@@ -1,18 +1,22 @@
 // Orders: what they are made of, the table that holds them, and why the book refuses a call.
 #![tactic(auto)]
 
-ghost use Rattle.std.specs.Prelude.{◌≡◌};
+ghost use Rattle.std.specs.Prelude.{◌≡◌, Some};
 ghost use Rattle.orders.specs.Kinds.{is_displayed, is_market, is_closing, more_aggressive};
-ghost use Rattle.orders.specs.Letters.{kind_letter, side_letter, flag_letter, kind_of, side_of, flag_of, Reads};
 ghost use Rattle.orders.specs.Phases.{phase_number};
+ghost use Rattle.orders.specs.Words.{kind_word, side_word, phase_word};
+
+use std::fmt;
 
 pub mod found;
+pub mod letters;
 pub mod refusal;
 pub mod table;
 
-#[derive(Clone, Copy, Debug, PartialEq, Eq)]
+#[derive(Clone, Copy, Debug, Default, PartialEq, Eq)]
 pub enum Kind {
     // Trades at whatever price the close has; its own price is 0.
+    #[default]
     Market,
     // A limit order for the close alone.
     Limit,
@@ -20,22 +24,25 @@ pub enum Kind {
     Displayed,
 }
 
-#[derive(Clone, Copy, Debug, PartialEq, Eq)]
+#[derive(Clone, Copy, Debug, Default, PartialEq, Eq)]
 pub enum Side {
+    #[default]
     Buy,
     Sell,
 }
 
 // Whether a limit order for the close that arrives in the freeze may be pegged.
-#[derive(Clone, Copy, Debug, PartialEq, Eq)]
+#[derive(Clone, Copy, Debug, Default, PartialEq, Eq)]
 pub enum PegFlag {
+    #[default]
     Pegged,
     NotPegged,
 }
 
-// The phases of a closing day, in order.
-#[derive(Clone, Copy, Debug, PartialEq, Eq)]
+// The phases of a closing day, numbered from 0 in order.
+#[derive(Clone, Copy, Debug, Default, PartialEq, Eq)]
 pub enum Phase {
+    #[default]
     Entry,
     Imbalance,
     Freeze,
@@ -43,7 +50,8 @@ pub enum Phase {
     Closed,
 }
 
-// What a member asks for when entering an order: prices in ten-thousandths of a dollar, broker 0 for unattributed.
+// What a member asks for when entering an order: prices in ten-thousandths of a dollar. Broker 0 stands for unattributed and
+// limit 0 for a market order's, as order files lay down.
 #[derive(Clone, Copy, Debug, PartialEq, Eq)]
 pub struct Entry {
     pub kind: Kind,
@@ -55,28 +63,6 @@ pub struct Entry {
 }
 
 impl Kind {
-    pub fn letter(self) -> u8
-        ensures { result ≡ kind_letter self }
-    {
-        match self {
-            Kind::Market => b'M',
-            Kind::Limit => b'L',
-            Kind::Displayed => b'D',
-        }
-    }
-
-    pub fn from_letter(letter: u8) -> Option<Kind>
-        ensures value { result ≡ kind_of letter }
-        ensures meaning { Reads kind_letter letter result }
-    {
-        match letter {
-            b'M' => Some(Kind::Market),
-            b'L' => Some(Kind::Limit),
-            b'D' => Some(Kind::Displayed),
-            _ => None,
-        }
-    }
-
     pub fn is_displayed(self) -> bool
         ensures { result ≡ is_displayed self }
     {
@@ -94,29 +80,28 @@ impl Kind {
     {
         matches!(self, Kind::Market | Kind::Limit)
     }
+
+    // The word for it.
+    pub fn as_str(self) -> &'static str
+        ensures { result.now ≡ kind_word self }
+    {
+        match self {
+            Kind::Market => "market",
+            Kind::Limit => "limit",
+            Kind::Displayed => "displayed",
+        }
+    }
+}
+
+impl fmt::Display for Kind {
+    ghost output = { λ kind. Some (kind_word kind) };
+
+    fn fmt<W: fmt::Write>(&self, f: &mut fmt::Formatter<W>) -> fmt::Result {
+        f.write_str(self.as_str())
+    }
 }
 
 impl Side {
-    pub fn letter(self) -> u8
-        ensures { result ≡ side_letter self }
-    {
-        match self {
-            Side::Buy => b'B',
-            Side::Sell => b'S',
-        }
-    }
-
-    pub fn from_letter(letter: u8) -> Option<Side>
-        ensures value { result ≡ side_of letter }
-        ensures meaning { Reads side_letter letter result }
-    {
-        match letter {
-            b'B' => Some(Side::Buy),
-            b'S' => Some(Side::Sell),
-            _ => None,
-        }
-    }
-
     // Whether a limit at `price` is more aggressive than one at `other`: higher to buy, lower to sell.
     pub fn more_aggressive(self, price: u32, other: u32) -> bool
         ensures { result ≡ more_aggressive self price other }
@@ -126,27 +111,23 @@ impl Side {
             Side::Sell => price < other,
         }
     }
-}
 
-impl PegFlag {
-    pub fn letter(self) -> u8
-        ensures { result ≡ flag_letter self }
+    // The word for it.
+    pub fn as_str(self) -> &'static str
+        ensures { result.now ≡ side_word self }
     {
         match self {
-            PegFlag::Pegged => b'P',
-            PegFlag::NotPegged => b'N',
+            Side::Buy => "buy",
+            Side::Sell => "sell",
         }
     }
+}
 
-    pub fn from_letter(letter: u8) -> Option<PegFlag>
-        ensures value { result ≡ flag_of letter }
-        ensures meaning { Reads flag_letter letter result }
-    {
-        match letter {
-            b'P' => Some(PegFlag::Pegged),
-            b'N' => Some(PegFlag::NotPegged),
-            _ => None,
-        }
+impl fmt::Display for Side {
+    ghost output = { λ side. Some (side_word side) };
+
+    fn fmt<W: fmt::Write>(&self, f: &mut fmt::Formatter<W>) -> fmt::Result {
+        f.write_str(self.as_str())
     }
 }
 
@@ -154,12 +135,27 @@ impl Phase {
     pub fn number(self) -> u8
         ensures { result ≡ phase_number self }
     {
+        self as u8
+    }
+
+    // The word for it.
+    pub fn as_str(self) -> &'static str
+        ensures { result.now ≡ phase_word self }
+    {
         match self {
-            Phase::Entry => 0,
-            Phase::Imbalance => 1,
-            Phase::Freeze => 2,
-            Phase::Extension => 3,
-            Phase::Closed => 4,
+            Phase::Entry => "entry",
+            Phase::Imbalance => "imbalance",
+            Phase::Freeze => "freeze",
+            Phase::Extension => "extension",
+            Phase::Closed => "closed",
         }
+    }
+}
+
+impl fmt::Display for Phase {
+    ghost output = { λ phase. Some (phase_word phase) };
+
+    fn fmt<W: fmt::Write>(&self, f: &mut fmt::Formatter<W>) -> fmt::Result {
+        f.write_str(self.as_str())
     }
 }

@@ -1,13 +1,16 @@
 // Orders, and the table of 128 that holds them.
-ghost use Rattle.std.specs.Prelude.{◌≡◌, ◌+◌, ◌≤◌, length, replicate, if◌then◌else◌, Some, None};
-ghost use Rattle.orders.specs.Tables.{blank, listed, known, order_at, with_order, has_room, with_more, OthersSame};
+ghost use Rattle.std.specs.Prelude.{◌≡◌, ◌≤◌, [], length, if◌then◌else◌, Some, None};
+ghost use Rattle.orders.specs.Tables.{listed, size, table_of, known, order_at, with_order, has_room, with_more, OthersSame};
 
 use crate::{Kind, PegFlag, Phase, Side};
+use arrayvec::ArrayVec;
 
-const PLACES: usize = 128;
+// A day has no more orders, and no call finds more.
+pub const MOST_ORDERS: usize = 128;
 
-// An order as the book holds it. It stands while shares are left.
-#[derive(Clone, Copy)]
+// An order as the book holds it. It stands while shares are left. It has the fields of an `Entry` and no `Entry` inside: an
+// amendment changes one of them, and every reader would go through the inner one.
+#[derive(Clone, Copy, Debug, Default, PartialEq, Eq)]
 pub struct Order {
     // 1 to 128, in the order of acceptance, never given twice.
     pub number: u16,
@@ -24,44 +27,26 @@ pub struct Order {
     pub phase: Phase,
 }
 
-// The first `count` places hold the orders accepted, the order with number n at place n - 1.
-#[derive(Clone, Copy)]
+// The orders accepted, in turn: the order with number n is the n-th.
+#[derive(Clone, Debug, PartialEq, Eq, Drop)]
 pub struct OrderTable {
-    pub orders: [Order; 128],
-    pub count: usize,
+    pub orders: ArrayVec<Order, MOST_ORDERS>,
 }
-
-const BLANK: Order = Order {
-    number: 0,
-    entry: 0,
-    kind: Kind::Market,
-    side: Side::Buy,
-    flag: PegFlag::Pegged,
-    broker: 0,
-    limit: 0,
-    volume: 0,
-    left: 0,
-    phase: Phase::Entry,
-};
 
 impl OrderTable {
     pub fn new() -> OrderTable
-        ensures { result ≡ record { orders = replicate 128 blank; count = 0 } }
+        ensures { result ≡ table_of [] }
     {
         OrderTable {
-            orders: [BLANK; PLACES],
-            count: 0,
+            orders: ArrayVec::new(),
         }
     }
 
     pub fn get(&self, number: u16) -> Option<Order>
         ensures { result ≡ order_at self.now number }
     {
-        let place = usize::from(number);
-        if place == 0 || place > self.count || place > PLACES {
-            return None;
-        }
-        Some(self.orders[place - 1])
+        let place = usize::from(number).checked_sub(1)?;
+        self.as_slice().get(place).copied()
     }
 
     // The orders accepted, in turn.
@@ -69,7 +54,7 @@ impl OrderTable {
         ensures value { result.now ≡ listed self.now }
         ensures few { length result.now ≤ 128 }
     {
-        &self.orders[..self.count.min(PLACES)]
+        self.orders.as_slice()
     }
 
     // Puts `order` in the place of the order with this number, and leaves every other as it was. Answers whether there is one.
@@ -79,7 +64,7 @@ impl OrderTable {
         ensures others { OthersSame self.old self.new number }
     {
         let place = usize::from(number);
-        if place == 0 || place > self.count || place > PLACES {
+        if place == 0 || place > self.orders.len() {
             return false;
         }
         self.orders[place - 1] = order;
@@ -88,15 +73,11 @@ impl OrderTable {
 
     // Adds an order in the next place, if there is one. Answers its place.
     pub fn push(&mut self, order: Order) -> Option<usize>
-        ensures answer { result ≡ (if has_room self.old then Some self.old.count else None) }
+        ensures answer { result ≡ (if has_room self.old then Some (size self.old) else None) }
         ensures after { self.new ≡ with_more self.old order }
     {
-        let place = self.count;
-        if place >= PLACES {
-            return None;
-        }
-        self.orders[place] = order;
-        self.count = place + 1;
+        let place = self.orders.len();
+        self.orders.try_push(order).ok()?;
         Some(place)
     }
 }

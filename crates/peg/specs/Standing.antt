@@ -1,5 +1,5 @@
 -- The price at which an order stands. R is twice the peg reference throughout.
-use Rattle.std.specs.Prelude.{◌≡◌, ℕ, ◌+◌, ◌*◌, ◌/◌, Bool, true, false, cond, ◌||◌, ◌==◌, ◌≢◌, nat_le}
+use Rattle.std.specs.Prelude.{◌≡◌, ℕ, ◌*◌, Bool, true, false, cond, ◌||◌, ◌==◌, ◌≢◌, nat_le}
 use Rattle.grid.specs.Prices.{least_from, greatest_to}
 use Rattle.orders.specs.Kinds.{more_aggressive}
 use Rattle.orders.specs.declared.Kind.{Kind}
@@ -9,6 +9,7 @@ use Rattle.orders.specs.declared.Phase.TheVariants.{Entry, Imbalance, Freeze, Ex
 use Rattle.orders.specs.declared.Side.{Side}
 use Rattle.orders.specs.declared.Side.TheVariants.{Buy, Sell}
 use Rattle.orders.specs.declared.table.Order.{Order}
+use Rattle.reference.specs.References.{rounded_up, rounded_down}
 
 -- a limit order for the close that was entered in the freeze
 abbrev pub pegs : Kind → Phase → Bool
@@ -25,8 +26,8 @@ is_pegged o = pegs o.kind o.phase
 
 -- half of R on the grid, rounded up for buys and down for sells, and 0 where there is no such price
 abbrev pub peg_price : (ℕ → Bool) → ℕ → Side → ℕ
-peg_price holds R Buy = least_from holds ((R + 1) / 2)
-peg_price holds R Sell = greatest_to holds (R / 2)
+peg_price holds R Buy = least_from holds (rounded_up R)
+peg_price holds R Sell = greatest_to holds (rounded_down R)
 
 -- the less aggressive of the limit and the peg, and the limit where there is no peg
 abbrev pub pegged_at : Side → ℕ → ℕ → ℕ

@@ -2,7 +2,7 @@
 // the midpoint on the grid.
 #![tactic(auto)]
 
-ghost use Rattle.std.specs.Prelude.{◌≡◌, ◌+◌, ◌/◌};
+ghost use Rattle.std.specs.Prelude.{◌≡◌};
 ghost use Rattle.reference.specs.References.{twice};
 ghost use Rattle.peg.specs.Standing.{is_pegged, peg_price, pegged_at, standing, Stands};
 
@@ -17,30 +17,17 @@ fn is_pegged(order: &Order) -> bool
     matches!((order.kind, order.phase), (Kind::Limit, Phase::Freeze))
 }
 
-// Half of twice the reference, up to a whole number and down to one.
-fn rounded_up(reference: Reference) -> u32
-    ensures { result ≡ (twice reference + 1) / 2 }
-{
-    ((reference.doubled() + 1) / 2) as u32
-}
-
-fn rounded_down(reference: Reference) -> u32
-    ensures { result ≡ twice reference / 2 }
-{
-    (reference.doubled() / 2) as u32
-}
-
-// The reference on the grid, rounded up for buys and down for sells, and 0 where there is no such price.
+// The reference on the grid, rounded up for buys and down for sells, and 0 where there is no such price, as the grid answers it.
 fn peg_price<S: PriceSet>(prices: &S, reference: Reference, side: Side) -> u32
     ensures { result ≡ peg_price (S.holds prices.now) (twice reference) side }
 {
     match side {
-        Side::Buy => prices.at_or_above(rounded_up(reference)),
-        Side::Sell => prices.at_or_below(rounded_down(reference)),
+        Side::Buy => prices.at_or_above(reference.rounded_up()),
+        Side::Sell => prices.at_or_below(reference.rounded_down()),
     }
 }
 
-// The less aggressive of the limit and the peg, and the limit where there is no peg.
+// The less aggressive of the limit and the peg, and the limit where there is no peg, which is the 0 of the grid.
 fn pegged_at(side: Side, limit: u32, peg: u32) -> u32
     ensures { result ≡ pegged_at side limit peg }
 {
@@ -50,7 +37,8 @@ fn pegged_at(side: Side, limit: u32, peg: u32) -> u32
     peg
 }
 
-// The price at which an order stands, given the prices of the grid and the reference that pegs follow.
+// The price at which an order stands, given the prices of the grid and the reference that pegs follow: two parameters, since
+// the grid is the venue's and the reference the book's.
 pub fn standing_price<S: PriceSet>(prices: &S, reference: Reference, order: &Order) -> u32
     ensures value { result ≡ standing (S.holds prices.now) (twice reference) order.now }
     ensures meaning { Stands (S.holds prices.now) (twice reference) order.now result }

@@ -109,6 +109,13 @@ fn a_band_may_be_empty(rt: HostRuntime) {
     };
     assert_eq!(rt; band.at_or_above(0), 9_900);
     assert_eq!(rt; band.at_or_below(20_000), 10_100);
+    let lent = Band {
+        prices: &Cents,
+        low: 9_900,
+        high: 10_100,
+    };
+    assert_eq!(rt; lent.at_or_above(0), 9_900);
+    assert_eq!(rt; lent.at_or_below(20_000), 10_100);
 }
 
 #[test]

@@ -1,5 +1,5 @@
 -- Both rules end with time, which tells any two pairs apart.
-use Rattle.std.specs.Prelude.{◌≡◌}
+use Rattle.std.specs.Prelude.{◌≡◌, Bool}
 use Rattle.priority.specs.Pairs.{pair_name}
 use Rattle.priority.specs.Rules.{step, bid_key, offer_key, broker_key, by_time, before_by_steps, before_by_price}
 use Rattle.priority.specs.declared.Pair.{Pair}
@@ -27,3 +27,11 @@ price_rank =
     let same_bid = (larger_level (λ p. bid_key p.buy) _ x y l).1 in
     let same_offer = (smaller_level (λ p. offer_key p.sell) _ x y same_bid).1 in
     time_names x y (smaller_level broker_key by_time x y same_offer).1)
+
+-- a rule ranks whatever has a pair in it
+pub ranked : {X : Type 0} {ahead : Pair → Pair → Bool} (pair_in : X → Pair) → Ranks pair_name ahead → Ranks (λ x. pair_name (pair_in x)) (λ x y. ahead (pair_in x) (pair_in y))
+ranked pair_in law = record {
+  apart = λ x. law.apart (pair_in x);
+  chain = λ x y z. law.chain (pair_in x) (pair_in y) (pair_in z);
+  decided = λ x y. law.decided (pair_in x) (pair_in y);
+}

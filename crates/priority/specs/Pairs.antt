@@ -1,17 +1,15 @@
 -- Pairs of a buy and a sell.
-use Rattle.std.specs.Prelude.{ℕ, Bool, true, false, not, ◌&&◌, ◌==◌}
-use Rattle.orders.specs.declared.Kind.{Kind}
-use Rattle.orders.specs.declared.Kind.TheVariants.{Market, Limit, Displayed}
+use Rattle.std.specs.Prelude.{ℕ, Bool, not, ◌&&◌, ◌==◌}
 use Rattle.priority.specs.declared.Pair.{Pair}
+use Rattle.ranking.specs.declared.entries.EntryPair.{EntryPair}
 
 -- a pair is named by its two entry numbers
 abbrev pub pair_name : Pair → ℕ × ℕ
 pair_name p = (p.buy.entry, p.sell.entry)
 
-abbrev pub is_market : Kind → Bool
-is_market Market = true
-is_market Limit = false
-is_market Displayed = false
+-- the same, as ranked by time
+abbrev pub entries : Pair → EntryPair
+entries p = record { buy = p.buy.entry; sell = p.sell.entry }
 
 -- broker 0 is unattributed, and no one's
 abbrev pub same_broker : Pair → Bool

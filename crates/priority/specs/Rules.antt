@@ -1,13 +1,15 @@
 -- The two pairing rules, each an order of pairs by one key after another.
 use Rattle.std.specs.Prelude.{ℕ, ◌+◌, ◌^◌, Bool, true, false, cond}
 use Rattle.orders.specs.declared.found.FoundOrder.{FoundOrder}
-use Rattle.priority.specs.Pairs.{is_market, same_broker}
+use Rattle.orders.specs.Kinds.{is_market}
+use Rattle.priority.specs.Pairs.{entries, same_broker}
 use Rattle.priority.specs.declared.Pair.{Pair}
-use Rattle.ranking.specs.Keys.{smaller, larger, level}
+use Rattle.ranking.specs.Keys.{smaller, larger}
+use Rattle.ranking.specs.Points.{earlier}
 
 -- the last keys of both rules: the earlier buy, then the earlier sell
 abbrev pub by_time : Pair → Pair → Bool
-by_time = smaller (λ p. p.buy.entry) (smaller (λ p. p.sell.entry) level)
+by_time x y = earlier (entries x) (entries y)
 
 -- 1 and 2 where both are market orders, 3 and 4 where one is, 5 and 6 where none is, the lower one with the same broker
 abbrev pub step_of : Bool → Bool → Bool → ℕ

@@ -3,17 +3,19 @@
 
 ghost use Rattle.std.specs.Prelude.{◌≡◌, ℕ, Bool};
 ghost use Rattle.priority.specs.declared.Pair.{Pair};
-ghost use Rattle.priority.specs.Pairs.{pair_name, is_market, same_broker};
-ghost use Rattle.priority.specs.Rules.{step, bid_key, offer_key, by_time, before_by_steps, before_by_price};
+ghost use Rattle.priority.specs.Pairs.{pair_name, entries, same_broker};
+ghost use Rattle.priority.specs.Rules.{step, bid_key, offer_key, before_by_steps, before_by_price};
 ghost use Rattle.ranking.specs.Ranks.{Ranks};
-ghost use Rattle.priority.specs.Lawful.{steps_rank, price_rank};
+ghost use Rattle.priority.specs.Lawful.{steps_rank, price_rank, ranked};
 
-use orders::Kind;
 use orders::found::FoundOrder;
 use ranking::Ranking;
+use ranking::entries::EntryPair;
+use std::cmp::Reverse;
+use std::marker::PhantomData;
 
 // A buy and a sell, each as the call found it.
-#[derive(Clone, Copy)]
+#[derive(Clone, Copy, Default)]
 pub struct Pair {
     pub buy: FoundOrder,
     pub sell: FoundOrder,
@@ -37,19 +39,32 @@ pub struct BySteps;
 #[derive(Clone, Copy)]
 pub struct ByPrice;
 
-// A pairing rule as a ranking, for the first of a list of pairs.
-#[derive(Clone, Copy)]
-pub struct Ranked<R> {
-    pub rule: R,
+// What a pairing rule can rank: it has a pair in it.
+pub trait HasPair {
+    ghost pair_in: { Self → Pair };
+
+    fn pair(&self) -> &Pair
+        ensures { result.now ≡ pair_in self.now };
 }
 
-fn market(kind: Kind) -> bool
-    ensures { result ≡ is_market kind }
-{
-    matches!(kind, Kind::Market)
+// A pairing rule as a ranking of whatever has a pair in it.
+#[derive(Clone, Copy)]
+pub struct Ranked<R, T> {
+    pub rule: R,
+    pub of: PhantomData<T>,
 }
 
 impl Pair {
+    // The two entry numbers, which are in order of time.
+    fn entries(&self) -> EntryPair
+        ensures { result ≡ entries self.now }
+    {
+        EntryPair {
+            buy: self.buy.entry,
+            sell: self.sell.entry,
+        }
+    }
+
     // Equal brokers, and not 0.
     fn has_same_broker(&self) -> bool
         ensures { result ≡ same_broker self.now }
@@ -60,7 +75,7 @@ impl Pair {
     fn step(&self) -> u8
         ensures { result ≡ step self.now }
     {
-        let first = match (market(self.buy.kind), market(self.sell.kind)) {
+        let first = match (self.buy.kind.is_market(), self.sell.kind.is_market()) {
             (true, true) => 1,
             (true, false) | (false, true) => 3,
             (false, false) => 5,
@@ -76,7 +91,7 @@ impl Pair {
     fn bid(&self) -> u64
         ensures { result ≡ bid_key self.now.buy }
     {
-        if market(self.buy.kind) {
+        if self.buy.kind.is_market() {
             1 << 32
         } else {
             u64::from(self.buy.standing)
@@ -87,20 +102,19 @@ impl Pair {
     fn offer(&self) -> u64
         ensures { result ≡ offer_key self.now.sell }
     {
-        if market(self.sell.kind) {
+        if self.sell.kind.is_market() {
             0
         } else {
             u64::from(self.sell.standing) + 1
         }
     }
+}
 
-    fn is_earlier(&self, other: &Pair) -> bool
-        ensures { result ≡ by_time self.now other.now }
-    {
-        if self.buy.entry != other.buy.entry {
-            return self.buy.entry < other.buy.entry;
-        }
-        self.sell.entry < other.sell.entry
+impl HasPair for Pair {
+    ghost pair_in = { λ pair. pair };
+
+    fn pair(&self) -> &Pair {
+        self
     }
 }
 
@@ -110,11 +124,8 @@ impl PairingRule for BySteps {
     ghost pairs = { λ rule. steps_rank };
 
     fn is_before(&self, one: &Pair, other: &Pair) -> bool {
-        let (step, level) = (one.step(), other.step());
-        if step != level {
-            return step < level;
-        }
-        one.is_earlier(other)
+        let key = |pair: &Pair| (pair.step(), pair.entries());
+        key(one) < key(other)
     }
 }
 
@@ -124,34 +135,31 @@ impl PairingRule for ByPrice {
     ghost pairs = { λ rule. price_rank };
 
     fn is_before(&self, one: &Pair, other: &Pair) -> bool {
-        let (bid, level) = (one.bid(), other.bid());
-        if bid != level {
-            return bid > level;
-        }
-        let (offer, level) = (one.offer(), other.offer());
-        if offer != level {
-            return offer < level;
-        }
-        if one.has_same_broker() != other.has_same_broker() {
-            return one.has_same_broker();
-        }
-        one.is_earlier(other)
+        let key = |pair: &Pair| {
+            (
+                Reverse(pair.bid()),
+                pair.offer(),
+                Reverse(pair.has_same_broker()),
+                pair.entries(),
+            )
+        };
+        key(one) < key(other)
     }
 }
 
-impl<R: PairingRule> Ranking for Ranked<R> {
-    type Item = Pair;
+impl<R: PairingRule, T: HasPair> Ranking for Ranked<R, T> {
+    type Item = T;
 
     ghost Name = { ℕ × ℕ };
 
-    ghost name = { pair_name };
+    ghost name = { λ item. pair_name (T.pair_in item) };
 
-    ghost before = { λ r. R.PairingRule.ahead r.rule };
+    ghost before = { λ r one other. R.PairingRule.ahead r.rule (T.pair_in one) (T.pair_in other) };
 
-    ghost ranks = { λ r. R.PairingRule.pairs r.rule };
+    ghost ranks = { λ r. ranked T.pair_in (R.PairingRule.pairs r.rule) };
 
-    fn precedes(&self, one: &Pair, other: &Pair) -> bool {
-        self.rule.is_before(one, other)
+    fn precedes(&self, one: &T, other: &T) -> bool {
+        self.rule.is_before(one.pair(), other.pair())
     }
 }
 

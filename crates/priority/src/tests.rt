@@ -1,5 +1,5 @@
 use super::*;
-use orders::Side;
+use orders::{Kind, Side};
 use ranking::first;
 
 fn order(side: Side, kind: Kind, entry: u32, broker: u16, standing: u32) -> FoundOrder {
@@ -20,6 +20,13 @@ fn buy(kind: Kind, entry: u32, broker: u16, standing: u32) -> FoundOrder {
 
 fn sell(kind: Kind, entry: u32, broker: u16, standing: u32) -> FoundOrder {
     order(Side::Sell, kind, entry, broker, standing)
+}
+
+fn by<R>(rule: R) -> Ranked<R, Pair> {
+    Ranked {
+        rule,
+        of: PhantomData,
+    }
 }
 
 #[test]
@@ -59,8 +66,8 @@ fn the_same_broker_comes_before_the_earlier_order(rt: HostRuntime) {
         buy: buy(Kind::Market, 2, 9, 0),
         sell,
     };
-    assert_eq!(rt; first(&Ranked { rule: BySteps }, &[early, late]), Some(1));
-    assert_eq!(rt; first(&Ranked { rule: ByPrice }, &[early, late]), Some(1));
+    assert_eq!(rt; first(&by(BySteps), &[early, late]), Some(1));
+    assert_eq!(rt; first(&by(ByPrice), &[early, late]), Some(1));
 }
 
 // A market buy against a displayed sell at 10.02 and a limit sell at 10.00: by steps the earlier, by price the lower.
@@ -77,8 +84,8 @@ fn the_rules_differ_on_one_book(rt: HostRuntime) {
             sell: sell(Kind::Limit, 4, 0, 100_000),
         },
     ];
-    assert_eq!(rt; first(&Ranked { rule: BySteps }, &pairs), Some(0));
-    assert_eq!(rt; first(&Ranked { rule: ByPrice }, &pairs), Some(1));
+    assert_eq!(rt; first(&by(BySteps), &pairs), Some(0));
+    assert_eq!(rt; first(&by(ByPrice), &pairs), Some(1));
 }
 
 #[test]
@@ -94,5 +101,5 @@ fn market_orders_have_the_best_price(rt: HostRuntime) {
             sell,
         },
     ];
-    assert_eq!(rt; first(&Ranked { rule: ByPrice }, &pairs), Some(1));
+    assert_eq!(rt; first(&by(ByPrice), &pairs), Some(1));
 }

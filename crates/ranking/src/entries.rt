@@ -5,7 +5,8 @@ ghost use Rattle.std.proofs.Common.{rules};
 
 use super::Ranking;
 
-#[derive(Clone, Copy)]
+// Derived, the order is that of the fields: the earlier buy, then the earlier sell.
+#[derive(Clone, Copy, Debug, PartialEq, Eq, PartialOrd, Ord)]
 pub struct EntryPair {
     pub buy: u32,
     pub sell: u32,
@@ -27,9 +28,6 @@ impl Ranking for TimePriority {
     ghost ranks = { Prim.search rules };
 
     fn precedes(&self, one: &EntryPair, other: &EntryPair) -> bool {
-        if one.buy != other.buy {
-            return one.buy < other.buy;
-        }
-        one.sell < other.sell
+        one < other
     }
 }

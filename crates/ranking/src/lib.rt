@@ -31,11 +31,11 @@ pub fn first<R: Ranking>(rule: &R, items: &[R::Item]) -> Option<usize>
         return None;
     }
     let mut first = 0;
-    for i in 1..items.len() {
-        if !rule.precedes(&items[i], &items[first]) {
-            continue;
+    // the first item is not before itself
+    for (i, item) in items.iter().enumerate() {
+        if rule.precedes(item, &items[first]) {
+            first = i;
         }
-        first = i;
     }
     Some(first)
 }

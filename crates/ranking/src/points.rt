@@ -4,8 +4,9 @@ ghost use Rattle.ranking.specs.Points.{ahead};
 ghost use Rattle.ranking.specs.Ahead.{ahead_ranks};
 
 use super::Ranking;
+use std::cmp::Reverse;
 
-#[derive(Clone, Copy)]
+#[derive(Clone, Copy, Default)]
 pub struct PricePoint {
     pub price: u32,
     pub volume: u64,
@@ -31,15 +32,14 @@ impl Ranking for ClosingPrice {
     ghost ranks = { λ rule. ahead_ranks };
 
     fn precedes(&self, one: &PricePoint, other: &PricePoint) -> bool {
-        if one.volume != other.volume {
-            return one.volume > other.volume;
-        }
-        if one.imbalance != other.imbalance {
-            return one.imbalance < other.imbalance;
-        }
-        if one.distance != other.distance {
-            return one.distance < other.distance;
-        }
-        one.price > other.price
+        let key = |point: &PricePoint| {
+            (
+                Reverse(point.volume),
+                point.imbalance,
+                point.distance,
+                Reverse(point.price),
+            )
+        };
+        key(one) < key(other)
     }
 }

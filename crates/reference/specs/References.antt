@@ -1,5 +1,5 @@
 -- The reference: the midpoint of the quote, else the last sale, else the previous close.
-use Rattle.std.specs.Prelude.{◌≡◌, ℕ, ◌+◌, false, List, [], ◌∷◌, ◌++◌, Some, None, Option}
+use Rattle.std.specs.Prelude.{◌≡◌, ℕ, ◌+◌, ◌/◌, false, List, [], ◌∷◌, ◌++◌, Some, None, Option}
 use Rattle.orders.specs.Kinds.{more_aggressive}
 use Rattle.orders.specs.declared.Side.TheVariants.{Buy, Sell}
 use Rattle.orders.specs.declared.table.Order.{Order}
@@ -9,6 +9,13 @@ use Rattle.reference.specs.declared.Reference.{Reference}
 -- twice the reference, which is a whole number
 abbrev pub twice : Reference → ℕ
 twice r = r.one + r.other
+
+-- half of R, which is twice the reference, up to a whole number and down to one
+abbrev pub rounded_up : ℕ → ℕ
+rounded_up R = (R + 1) / 2
+
+abbrev pub rounded_down : ℕ → ℕ
+rounded_down R = R / 2
 
 abbrev pub between : ℕ → ℕ → Reference
 between p q = record { one = p; other = q }

@@ -3,7 +3,7 @@
 
 ghost use Rattle.std.specs.Prelude.{◌≡◌, ◌+◌, ◌^◌, ◌≤◌};
 ghost use Rattle.reference.specs.Quote.{makes_quote, best_step, best_limit, BestOfSide};
-ghost use Rattle.reference.specs.References.{twice, sale_reference, quote_reference, reference_of, Steady};
+ghost use Rattle.reference.specs.References.{twice, rounded_up, rounded_down, sale_reference, quote_reference, reference_of, Steady};
 
 use orders::Side;
 use orders::table::Order;
@@ -35,16 +35,21 @@ fn better(side: Side, best: Option<u32>, order: &Order) -> Option<u32>
     }
 }
 
+// The best limit once every order is looked at.
+fn most_aggressive(orders: &[Order], side: Side) -> Option<u32>
+    ensures { result ≡ best_limit side orders.now }
+{
+    orders
+        .iter()
+        .fold(None, |best, order| better(side, best, order))
+}
+
 // The most aggressive limit among the orders that make the quote on a side.
 pub fn best_limit(orders: &[Order], side: Side) -> Option<u32>
     ensures value { result ≡ best_limit side orders.now }
     ensures best { BestOfSide side orders.now result }
 {
-    let mut best = None;
-    for order in orders {
-        best = better(side, best, order);
-    }
-    best
+    most_aggressive(orders, side)
 }
 
 // The midpoint of bid and offer where both exist.
@@ -61,7 +66,7 @@ fn midpoint(bid: Option<u32>, offer: Option<u32>, otherwise: Reference) -> Refer
 }
 
 impl Reference {
-    // In the phases up to the freeze.
+    // In the phases up to the freeze. No struct of sale and close: two functions take the pair, and a take sets one alone.
     pub fn of(orders: &[Order], last_sale: Option<u32>, previous_close: u32) -> Reference
         ensures value { result ≡ reference_of orders.now last_sale previous_close }
         ensures steady { Steady orders.now last_sale previous_close result }
@@ -71,7 +76,7 @@ impl Reference {
         midpoint(bid, offer, Reference::of_sales(last_sale, previous_close))
     }
 
-    // In the extension: the last sale, else the previous close.
+    // In the extension: the last sale, else the previous close. Here too sale and close stay two parameters.
     pub fn of_sales(last_sale: Option<u32>, previous_close: u32) -> Reference
         ensures { result ≡ sale_reference last_sale previous_close }
     {
@@ -88,5 +93,18 @@ impl Reference {
         ensures bound { result + 2 ≤ 2 ^ 33 }
     {
         u64::from(self.one) + u64::from(self.other)
+    }
+
+    // The reference, rounded up to a whole price and down to one.
+    pub fn rounded_up(self) -> u32
+        ensures { result ≡ rounded_up (twice self) }
+    {
+        ((self.doubled() + 1) / 2) as u32
+    }
+
+    pub fn rounded_down(self) -> u32
+        ensures { result ≡ rounded_down (twice self) }
+    {
+        (self.doubled() / 2) as u32
     }
 }

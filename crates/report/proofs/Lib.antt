@@ -1,2 +1,3 @@
 pub mod Letters
+pub mod Decimals
 pub mod Growing

@@ -1,4 +1,3 @@
 pub mod Text
-pub mod Refusals
 pub mod Words
 pub mod Lines

@@ -1,7 +1,7 @@
 -- The readable text of an order file, line by line.
-use Rattle.std.specs.Prelude.{ℕ, ◌+◌, List, [], ◌∷◌, ◌++◌, Ok, Err, codes, decimal, Result}
-use Rattle.std.proofs.Math.Utf8.{encodes}
+use Rattle.std.specs.Prelude.{ℕ, ◌+◌, List, [], ◌∷◌, ◌++◌, Ok, Err, codes, decimal, encode_utf8_all, Result}
 use Rattle.orders.specs.Letters.{flag_letter}
+use Rattle.orders.specs.Words.{kind_word, side_word}
 use Rattle.orders.specs.declared.Entry.{Entry}
 use Rattle.orderfile.specs.Bodies.{Content, enters, amends, cancels, takes, advances, calls}
 use Rattle.orderfile.specs.Format.{rule_letter}
@@ -9,7 +9,7 @@ use Rattle.orderfile.specs.Reading.{read_file}
 use Rattle.orderfile.specs.declared.faults.FileFault.{FileFault}
 use Rattle.orderfile.specs.declared.file.Head.{Head}
 use Rattle.report.specs.Text.{pieces, dollars}
-use Rattle.report.specs.Words.{kind_word, side_word, plural_ending, fault_text}
+use Rattle.report.specs.Words.{plural_ending, fault_text}
 
 abbrev pub order_text : Entry → List ℕ
 order_text e =
@@ -19,7 +19,7 @@ order_text e =
 -- a byte of a reference is the character with that number
 abbrev pub message_text : Content → List ℕ
 message_text (enters e []) = order_text e
-message_text (enters e (b ∷ bs)) = pieces (order_text e ∷ codes ", reference " ∷ encodes (b ∷ bs) ∷ [])
+message_text (enters e (b ∷ bs)) = pieces (order_text e ∷ codes ", reference " ∷ encode_utf8_all (b ∷ bs) ∷ [])
 message_text (amends number limit) = pieces (codes "amend order " ∷ decimal number ∷ codes " to " ∷ dollars limit ∷ [])
 message_text (cancels number) = pieces (codes "cancel order " ∷ decimal number ∷ [])
 message_text (takes number volume) = pieces (codes "take " ∷ decimal volume ∷ codes " of order " ∷ decimal number ∷ [])
@@ -44,8 +44,12 @@ head_line head =
 abbrev pub accepted_text : Head → List (Result Content FileFault) → List ℕ
 accepted_text head messages = head_line head ++ lines 1 messages
 
+-- the line of a refusal, from the words that say why
+abbrev pub refused_line : List ℕ → List ℕ
+refused_line why = pieces (codes "refused " ∷ why ∷ codes "\n" ∷ [])
+
 abbrev pub refused_text : FileFault → List ℕ
-refused_text fault = pieces (codes "refused " ∷ fault_text fault ∷ codes "\n" ∷ [])
+refused_text fault = refused_line (fault_text fault)
 
 -- the text of the file with these bytes
 abbrev pub file_text : List ℕ → List ℕ

@@ -1,19 +1,18 @@
 // The readable text of an order file.
 #![tactic(auto)]
 
-ghost use Rattle.std.specs.Prelude.{◌≡◌, map, IfOk, string_bytes};
+ghost use Rattle.std.specs.Prelude.{◌≡◌, map, IfOk, IfSome, string_bytes};
 ghost use Rattle.orderfile.specs.Bodies.{told};
-ghost use Rattle.report.specs.Lines.{accepted_text, refused_text, file_text};
+ghost use Rattle.report.specs.Lines.{accepted_text, refused_line, file_text};
 
 use crate::lines::{HeadLine, Lines};
 use crate::words::Wrong;
 use orderfile::faults::FileFault;
-use orderfile::file::{Head, OrderFile};
-use orderfile::message::Message;
+use orderfile::file::OrderFile;
 use std::alloc::{AllocError, Global};
+use std::fmt::Display;
 
 mod lines;
-pub mod refusals;
 #[cfg(test)]
 mod tests;
 pub mod text;
@@ -22,21 +21,21 @@ pub mod words;
 pub use crate::text::Dollars;
 
 // A line for the head, and one for each message.
-fn accepted(
-    heap: Global,
-    head: Head,
-    messages: &[Result<Message<'_>, FileFault>],
-) -> Result<String, AllocError>
-    ensures { IfOk result (λ s. string_bytes s ≡ accepted_text head (map told messages.now)) }
+fn accepted(heap: Global, file: &OrderFile<'_>) -> Result<String, AllocError>
+    ensures { IfOk result (λ s. string_bytes s ≡ accepted_text file.now.head (map told file.now.messages.items)) }
 {
-    format!(in heap; "{}{}", HeadLine(head), Lines(messages))
+    format!(in heap;
+        "{}{}",
+        HeadLine(file.head),
+        Lines(file.messages.as_slice())
+    )
 }
 
 // One line that says why.
-fn refused(heap: Global, fault: FileFault) -> Result<String, AllocError>
-    ensures { IfOk result (λ s. string_bytes s ≡ refused_text fault) }
+pub fn refused<W: Display + Drop>(heap: Global, why: W) -> Result<String, AllocError>
+    ensures { IfOk result (λ s. IfSome (W.output why) (λ words. string_bytes s ≡ refused_line words)) }
 {
-    format!(in heap; "refused {}\n", Wrong(fault))
+    format!(in heap; "refused {why}\n")
 }
 
 // The text of the file with these bytes: a line for the head and one for each message, or one that says why the file is
@@ -45,8 +44,8 @@ pub fn describe(heap: Global, file: &[u8]) -> Result<String, AllocError>
     ensures { IfOk result (λ s. string_bytes s ≡ file_text file.now) }
 {
     match OrderFile::read(heap, file) {
-        Ok(file) => accepted(heap, file.head, file.messages.as_slice()),
+        Ok(file) => accepted(heap, &file),
         Err(FileFault::Memory) => Err(AllocError),
-        Err(fault) => refused(heap, fault),
+        Err(fault) => refused(heap, Wrong(fault)),
     }
 }

@@ -10,6 +10,7 @@ use orderfile::faults::FileFault;
 use orderfile::file::Head;
 use orderfile::message::Message;
 use orders::Entry;
+use orders::letters::Lettered;
 use std::fmt;
 
 // What is entered.
@@ -28,8 +29,6 @@ impl fmt::Display for Order {
             limit,
             volume,
         } = self.0;
-        let kind = words::of_kind(kind);
-        let side = words::of_side(side);
         let price = Dollars(limit);
         let flag = char::from(flag.letter());
         write!(
@@ -88,7 +87,7 @@ impl fmt::Display for Line<'_, '_> {
     }
 }
 
-// The lines of a file's messages.
+// The lines of a file's messages. The transcript's lines are a type of their own: they have answers, and may end early.
 #[derive(Clone, Copy)]
 pub struct Lines<'l, 'a>(pub &'l [Result<Message<'a>, FileFault>]);
 

@@ -1,5 +1,6 @@
 // Files, good and damaged, each with its whole text.
 use crate::{Dollars, describe};
+use orderfile::input::read_bytes;
 use std::alloc::Global;
 use std::process::Abort;
 use std::test::Fail;
@@ -189,6 +190,18 @@ fn longest_files(rt: HostRuntime) -> Result<(), Fail> {
         bytes.as_slice(),
         "the file is longer than 65536 bytes",
     )
+}
+
+#[test]
+fn files_are_read_past_the_longest(rt: HostRuntime) -> Result<(), Fail> {
+    let heap = rt.alloc();
+    let mut bytes = longest_file(heap)?;
+    let longest = read_bytes(heap, bytes.as_slice())?;
+    assert_eq!(rt; longest.as_slice(), bytes.as_slice());
+    bytes.extend_from_slice(b"PC")?;
+    let longer = read_bytes(heap, bytes.as_slice())?;
+    assert_eq!(rt; longer.len(), 65_537);
+    Ok(())
 }
 
 #[test]

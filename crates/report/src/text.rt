@@ -1,6 +1,5 @@
 // A price, and the bytes of a reference, as text.
-ghost use Rattle.std.proofs.Math.Utf8.{encodes};
-ghost use Rattle.std.specs.Prelude.{Some};
+ghost use Rattle.std.specs.Prelude.{Some, encode_utf8_all};
 ghost use Rattle.report.specs.Text.{dollars};
 
 use std::fmt;
@@ -14,15 +13,7 @@ impl fmt::Display for Dollars {
 
     fn fmt<W: fmt::Write>(&self, f: &mut fmt::Formatter<W>) -> fmt::Result {
         let n = self.0;
-        write!(
-            f,
-            "{}.{}{}{}{}",
-            n / 10_000,
-            n / 1_000 % 10,
-            n / 100 % 10,
-            n / 10 % 10,
-            n % 10
-        )
+        write!(f, "{}.{:04}", n / 10_000, n % 10_000)
     }
 }
 
@@ -31,7 +22,7 @@ impl fmt::Display for Dollars {
 pub struct Characters<'a>(pub &'a [u8]);
 
 impl fmt::Display for Characters<'_> {
-    ghost output = { λ bytes. Some (encodes bytes.0.now) };
+    ghost output = { λ bytes. Some (encode_utf8_all bytes.0.now) };
 
     fn fmt<W: fmt::Write>(&self, f: &mut fmt::Formatter<W>) -> fmt::Result {
         for b in self.0 {

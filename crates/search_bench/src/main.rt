@@ -3,7 +3,7 @@
 #![tactic(auto)]
 
 use auction::found::FoundOrders;
-use auction::search::best_price;
+use auction::search::Auction;
 use grid::Cents;
 use orders::found::FoundOrder;
 use orders::{Kind, Side};
@@ -38,10 +38,14 @@ fn order(side: Side, standing: u32) -> FoundOrder {
 fn run(rt: &HostRuntime) -> anyhow::Result<()> {
     let orders = full_table();
     let reference = Reference::of_sales(None, 100_000);
+    let auction = Auction {
+        reference,
+        orders: &orders,
+    };
     let start = Instant::now(rt)?;
     let mut price = 0;
     for _ in 0..SEARCHES {
-        if let Some(best) = best_price(&Cents, reference, &orders) {
+        if let Some(best) = auction.best_price(&Cents) {
             price = best.price;
         }
     }

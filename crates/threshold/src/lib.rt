@@ -3,33 +3,52 @@
 
 ghost use Rattle.std.specs.Prelude.{◌≡◌, true, ◌-◌, ◌^◌, ◌<◌, min};
 ghost use Rattle.reference.specs.References.{twice};
-ghost use Rattle.threshold.specs.Percents.{accept_percent, fail_percent, distance, within, is_accepted, in_fail_band, lowest, highest, SpansFailBand};
+ghost use Rattle.threshold.specs.Percents.{percent, fail_percent, distance, within, is_accepted, in_fail_band, lowest, highest, SpansFailBand};
 
 use reference::Reference;
 
 // Twice a reference of 1.00 dollar.
 const DOLLAR: u64 = 20_000;
 
-// The prices from `low` to `high`.
+// The prices from `low` to `high`. A band of a grid has these two fields too; one struct for both would be no plainer, since
+// thresholds and grids rest on nothing of one another.
 #[derive(Clone, Copy, Debug, PartialEq, Eq)]
 pub struct PriceRange {
     pub low: u32,
     pub high: u32,
 }
 
-fn accept_percent(reference: Reference) -> u8
-    ensures { result ≡ accept_percent (twice reference) }
-{
-    if reference.doubled() < DOLLAR { 5 } else { 3 }
+// How many percent of the reference a price may lie from it.
+#[derive(Clone, Copy)]
+struct Percentages {
+    below_a_dollar: u8,
+    from_a_dollar: u8,
 }
 
-fn fail_percent(reference: Reference) -> u8
-    ensures { result ≡ fail_percent (twice reference) }
-{
-    if reference.doubled() < DOLLAR { 15 } else { 10 }
+const ACCEPTED: Percentages = Percentages {
+    below_a_dollar: 5,
+    from_a_dollar: 3,
+};
+
+const FAIL_BAND: Percentages = Percentages {
+    below_a_dollar: 15,
+    from_a_dollar: 10,
+};
+
+impl Percentages {
+    fn percent(self, reference: Reference) -> u8
+        ensures { result ≡ percent self.below_a_dollar self.from_a_dollar (twice reference) }
+    {
+        if reference.doubled() < DOLLAR {
+            self.below_a_dollar
+        } else {
+            self.from_a_dollar
+        }
+    }
 }
 
-// Twice the distance between a price and the reference.
+// Twice the distance between a price and the reference. These two stay two parameters here and below: a price is asked of a
+// reference, and a struct of both would hold no fact.
 pub fn distance(reference: Reference, price: u32) -> u64
     ensures value { result ≡ distance (twice reference) price }
     ensures bound { result < 2 ^ 34 }
@@ -48,14 +67,14 @@ pub fn accepted(reference: Reference, price: u32) -> bool
     ensures value { result ≡ is_accepted (twice reference) price }
     ensures inside { result ≡ true → in_fail_band (twice reference) price ≡ true }
 {
-    within(accept_percent(reference), reference, price)
+    within(ACCEPTED.percent(reference), reference, price)
 }
 
 // Whether a limit at this price is close enough to be entered in the extension.
 pub fn in_fail_band(reference: Reference, price: u32) -> bool
     ensures { result ≡ in_fail_band (twice reference) price }
 {
-    within(fail_percent(reference), reference, price)
+    within(FAIL_BAND.percent(reference), reference, price)
 }
 
 // The whole prices in the fail band.
@@ -64,7 +83,7 @@ pub fn fail_band(reference: Reference) -> PriceRange
     ensures spans { SpansFailBand (twice reference) result.low result.high }
 {
     let doubled = reference.doubled();
-    let percent = u64::from(fail_percent(reference));
+    let percent = u64::from(FAIL_BAND.percent(reference));
     let low = ((100 - percent) * doubled + 199) / 200;
     let high = ((100 + percent) * doubled / 200).min(u64::from(u32::MAX));
     PriceRange {

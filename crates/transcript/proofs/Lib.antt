@@ -2,5 +2,6 @@ pub mod Loops
 pub mod Asking
 pub mod Pairing
 pub mod Standing
+pub mod Midpoints
 pub mod Summing
 pub mod Running

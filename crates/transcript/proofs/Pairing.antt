@@ -1,38 +1,12 @@
--- Which answer a message has, and how a loop writes the lines of messages with their answers.
-use Rattle.std.proofs.Common.{◌≡◌, ℕ, ◌+◌, ◌-◌, ◌<◌, ◌≤◌, List, [], ◌∷◌, ◌++◌, map, length, get_or, take, drop, Some, None, Ok, Err, Option, Result, sym, refl, ap, ◌∙◌, arith}
-use Rattle.std.proofs.lemmas.List.{take_rest}
+-- How a loop writes the lines of messages with their answers.
+use Rattle.std.proofs.Common.{◌≡◌, ℕ, ◌+◌, ◌<◌, ◌≤◌, List, [], ◌∷◌, ◌++◌, map, length, get_or, drop, Some, None, Option, Result, sym, refl, ap}
 use Rattle.orders.specs.declared.refusal.Refusal.{Refusal}
 use Rattle.book.specs.declared.requests.Answer.{Answer}
-use Rattle.book.specs.declared.requests.Request.{Request}
-use Rattle.day.specs.Law.{given_answers}
-use Rattle.day.specs.declared.Turn.{Turn}
-use Rattle.orderfile.specs.Asking.{request_of, answered}
-use Rattle.orderfile.specs.Bodies.{content, told}
+use Rattle.orderfile.specs.Bodies.{told}
 use Rattle.orderfile.specs.declared.faults.FileFault.{FileFault}
 use Rattle.orderfile.specs.declared.message.Message.{Message}
-use Rattle.transcript.specs.Lines.{first_answer, next_answer, paired, line, lines}
+use Rattle.transcript.specs.Lines.{next_answer, paired, line, lines}
 use Rattle.transcript.proofs.Loops.{at_end, one_more, no_more}
-
--- a message that does not read has its own fault
-pub unread : (m : Result Message FileFault) (fault : FileFault) (answers : List (Result Answer Refusal)) → m ≡ Err fault → Some (Err fault, answers) ≡ next_answer (told m) answers
-unread m fault answers is = sym (ap (λ x. next_answer (told x) answers) is)
-
-module _ (m : Result Message FileFault) (asked : Message) (r : Request) (is : m ≡ Ok asked) (asks : request_of (content asked) ≡ Some r) where
-  first : (answers : List (Result Answer Refusal)) → next_answer (told m) answers ≡ first_answer (content asked) answers
-  first answers =
-      ap (λ x. next_answer (told x) answers) is ∙ ap (λ o. elim o [ Some _ ↦ first_answer (content asked) answers | None ↦ None ]) asks
-
-  -- the turns are used up
-  pub none_left : (turns : List Turn) → length turns < 1 → None ≡ next_answer (told m) (given_answers turns)
-  none_left [] none = sym (first [])
-  none_left (turn ∷ turns) none = absurd (omega arith)
-
-  -- `take (length turns - 1) (drop 1 turns)` is what the pattern `[turn, rest @ ..]` leaves
-  pub has_turn : (turns : List Turn) (d : Turn) (answer : Result Answer FileFault) → 0 < length turns → answer ≡ answered (told m) (get_or turns 0 d).answer → Some (answer, given_answers (take (length turns - 1) (drop 1 turns))) ≡ next_answer (told m) (given_answers turns)
-  has_turn [] d answer some e = absurd (omega arith)
-  has_turn (turn ∷ turns) d answer some e =
-      let same : answer ≡ answered (told (Ok asked)) turn.answer = e ∙ ap (λ x. answered (told x) turn.answer) is in
-      (λ i. Some (same i, given_answers (take_rest (turn ∷ turns) 1 i))) ∙ sym (first (given_answers (turn ∷ turns)))
 
 -- the lines of messages from a place on
 abbrev lines_of : ℕ → List (Result Answer Refusal) → List (Result Message FileFault) → List ℕ

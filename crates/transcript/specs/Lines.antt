@@ -1,6 +1,5 @@
 -- What happened to each message, line by line.
-use Rattle.std.specs.Prelude.{ℕ, ◌+◌, List, [], ◌∷◌, ◌++◌, Some, None, Ok, Err, codes, decimal, Option, Result}
-use Rattle.std.proofs.Math.Utf8.{encodes}
+use Rattle.std.specs.Prelude.{ℕ, ◌+◌, List, [], ◌∷◌, ◌++◌, Some, None, Ok, Err, codes, decimal, encode_utf8_all, Option, Result}
 use Rattle.std.specs.Option.{unwrap_or}
 use Rattle.orders.specs.declared.refusal.Refusal.{Refusal}
 use Rattle.book.specs.Requests.{answer_number}
@@ -40,7 +39,7 @@ reference_in (Err fault) = []
 -- a reference behind a blank, where there is one; a byte of it is the character with that number
 abbrev pub behind_blank : List ℕ → List ℕ
 behind_blank [] = []
-behind_blank (b ∷ bs) = pieces (codes " " ∷ encodes (b ∷ bs) ∷ [])
+behind_blank (b ∷ bs) = pieces (codes " " ∷ encode_utf8_all (b ∷ bs) ∷ [])
 
 -- a fault's number, and 0 for want of memory, which has none
 abbrev pub fault_number : FileFault → ℕ

@@ -2,6 +2,7 @@
 use Rattle.std.specs.Prelude.{ℕ, ◌*◌, ◌/◌, ◌%◌, Bool, cond, List, [], ◌∷◌, ◌++◌, Some, None, codes, decimal, ◌==◌}
 use Rattle.orders.specs.Kinds.{is_market}
 use Rattle.orders.specs.Tables.{listed}
+use Rattle.orders.specs.Words.{kind_word, side_word, phase_word}
 use Rattle.orders.specs.declared.Phase.{Phase}
 use Rattle.orders.specs.declared.table.Order.{Order}
 use Rattle.reference.specs.References.{twice}
@@ -14,7 +15,6 @@ use Rattle.book.specs.Phases.{phase_of}
 use Rattle.book.specs.Views.{found_orders, book_references}
 use Rattle.book.specs.declared.Book.{Book}
 use Rattle.report.specs.Text.{pieces, dollars}
-use Rattle.report.specs.Words.{kind_word, side_word, phase_word}
 
 -- n hundred-thousandths of a dollar, with five decimals
 abbrev pub five_decimals : ℕ → List ℕ

@@ -12,13 +12,14 @@ use Rattle.orderfile.specs.Asking.{request_of, answered}
 use Rattle.orderfile.specs.Bodies.{Content}
 use Rattle.orderfile.specs.Reading.{read_file}
 use Rattle.orderfile.specs.declared.faults.FileFault.{FileFault}
+use Rattle.report.specs.Lines.{refused_line}
 use Rattle.report.specs.Text.{pieces}
 use Rattle.transcript.specs.Lines.{fault_number, lines}
 use Rattle.transcript.specs.Summary.{summary_text}
 use Rattle.transcript.specs.Turns.{requests_in}
 
 abbrev pub refused_text : ℕ → List ℕ
-refused_text number = pieces (codes "refused " ∷ decimal number ∷ codes "\n" ∷ [])
+refused_text number = refused_line (decimal number)
 
 -- what happens to the messages up to the first closing call, by the day's account: one that does not read has its fault and
 -- changes nothing; one that reads is answered as the account says, and then noted in it

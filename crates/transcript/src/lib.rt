@@ -15,20 +15,15 @@ use book::{Book, Venue};
 use day::Turn;
 use grid::{Cents, Grid};
 use orderfile::faults::FileFault;
-use orderfile::file::{Head, OrderFile, Rule};
+use orderfile::file::{OrderFile, Rule};
 use orderfile::message::Message;
 use priority::{ByPrice, BySteps, PairingRule};
+use report::refused;
 use std::alloc::{AllocError, Global};
 
 pub mod lines;
 pub mod summary;
 pub mod turns;
-
-fn refused(heap: Global, number: u8) -> Result<String, AllocError>
-    ensures { IfOk result (λ s. string_bytes s ≡ refused_text number) }
-{
-    format!(in heap; "refused {number}\n")
-}
 
 // The answers to the messages, and the book after the last.
 fn ran<G: Grid, R: PairingRule>(
@@ -61,17 +56,14 @@ pub fn describe_day<G: Grid, R: PairingRule>(
     }
 }
 
-// On the grid of cents, under the rule of the head.
-fn accepted(
-    heap: Global,
-    head: Head,
-    messages: &[Result<Message<'_>, FileFault>],
-) -> Result<String, AllocError>
-    ensures { IfOk result (λ s. string_bytes s ≡ day_text cents head.previous_close (map told messages.now)) }
+// On the grid of cents, under the rule of the head. Two arms, and no `dyn` rule: each calls one generic function at its type.
+fn accepted(heap: Global, file: &OrderFile<'_>) -> Result<String, AllocError>
+    ensures { IfOk result (λ s. string_bytes s ≡ day_text cents file.now.head.previous_close (map told file.now.messages.items)) }
 {
     let grid = Cents;
-    let close = head.previous_close;
-    match head.rule {
+    let close = file.head.previous_close;
+    let messages = file.messages.as_slice();
+    match file.head.rule {
         Rule::V => {
             let rule = BySteps;
             describe_day(heap, &Venue { grid, rule }, close, messages)
@@ -89,7 +81,7 @@ pub fn describe(heap: Global, file: &[u8]) -> Result<String, AllocError>
     ensures { IfOk result (λ s. string_bytes s ≡ file_text file.now) }
 {
     match OrderFile::read(heap, file) {
-        Ok(file) => accepted(heap, file.head, file.messages.as_slice()),
+        Ok(file) => accepted(heap, &file),
         Err(fault) => match fault.number() {
             Some(number) => refused(heap, number),
             None => Err(AllocError),

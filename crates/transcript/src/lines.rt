@@ -56,7 +56,8 @@ impl fmt::Display for BehindBlank<'_> {
     }
 }
 
-// 0 for want of memory, which has no number.
+// 0 for want of memory, which has no number and is no message's fault: a line has two numbers, so an `Option` would
+// only be unpacked here.
 fn fault_number(fault: FileFault) -> u8
     ensures { result ≡ fault_number fault }
 {
@@ -97,7 +98,9 @@ impl fmt::Display for Line<'_, '_> {
     }
 }
 
-// The lines of the messages up to the first closing call: a message that reads has the next turn's answer.
+// The lines of the messages up to the first closing call: a message that reads has the next turn's answer. Two lists, since a
+// message that does not read has no turn.
+// Not `report`'s `Lines`: the answers come along, and the end may come early; one loop for both would be longer.
 #[derive(Clone, Copy)]
 pub struct Lines<'m, 't, 'a> {
     pub messages: &'m [Result<Message<'a>, FileFault>],

@@ -3,6 +3,7 @@ ghost use Rattle.std.specs.Prelude.{Some};
 ghost use Rattle.reference.specs.References.{twice};
 ghost use Rattle.transcript.specs.Summary.{reference_text, imbalance_text, notice_text, order_text, row, rows, phase_line, summary_text};
 
+use auction::search::Auction;
 use book::views::References;
 use book::{Book, Venue};
 use grid::Grid;
@@ -13,10 +14,10 @@ use peg::standing_price;
 use priority::PairingRule;
 use reference::Reference;
 use report::text::Dollars;
-use report::words;
 use std::fmt;
 
-// A reference in dollars, with a digit for half of a ten-thousandth.
+// A reference in dollars, with a digit for half of a ten-thousandth. It is a type beside `Dollars`, since the width of a hole is a
+// literal.
 #[derive(Clone, Copy)]
 struct Midpoint(Reference);
 
@@ -25,16 +26,7 @@ impl fmt::Display for Midpoint {
 
     fn fmt<W: fmt::Write>(&self, f: &mut fmt::Formatter<W>) -> fmt::Result {
         let n = self.0.doubled() * 5;
-        write!(
-            f,
-            "{}.{}{}{}{}{}",
-            n / 100_000,
-            n / 10_000 % 10,
-            n / 1_000 % 10,
-            n / 100 % 10,
-            n / 10 % 10,
-            n % 10
-        )
+        write!(f, "{}.{:05}", n / 100_000, n % 100_000)
     }
 }
 
@@ -47,7 +39,7 @@ impl fmt::Display for Leaning {
 
     fn fmt<W: fmt::Write>(&self, f: &mut fmt::Formatter<W>) -> fmt::Result {
         match self.0.side {
-            Some(side) => write!(f, "{} {}", words::of_side(side), self.0.volume),
+            Some(side) => write!(f, "{side} {}", self.0.volume),
             None => f.write_str("none"),
         }
     }
@@ -93,8 +85,6 @@ impl fmt::Display for OrderWords {
             volume,
             ..
         } = self.0;
-        let kind = words::of_kind(kind);
-        let side = words::of_side(side);
         write!(f, "order {number}: {kind} {side}, {left} of {volume} left")
     }
 }
@@ -157,7 +147,7 @@ impl fmt::Display for PhaseLine {
     ghost output = { λ phase. Some (phase_line phase.0) };
 
     fn fmt<W: fmt::Write>(&self, f: &mut fmt::Formatter<W>) -> fmt::Result {
-        let phase = words::of_phase(self.0);
+        let phase = self.0;
         writeln!(f, "phase             {phase}")
     }
 }
@@ -177,7 +167,11 @@ impl<G: Grid, R: PairingRule> fmt::Display for Summary<'_, '_, G, R> {
         let Some(References { current, pegs }) = self.book.references() else {
             return write!(f, "{phase}");
         };
-        let figures = Figures(Notice::of(current, &self.book.found(self.venue, pegs)));
+        let auction = Auction {
+            reference: current,
+            orders: &self.book.found(self.venue, pegs),
+        };
+        let figures = Figures(Notice::of(&auction));
         let orders = self.book.table.as_slice();
         let rows = Rows {
             grid: &self.venue.grid,

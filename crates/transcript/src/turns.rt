@@ -9,7 +9,8 @@ use orderfile::message::Message;
 use orders::refusal::Refusal;
 use std::alloc::{AllocError, Global};
 
-// The requests of the messages that read, up to the first closing call. `BookClosed` holds the place of each answer.
+// The requests of the messages that read, up to the first closing call. `BookClosed` holds the
+// place of each answer: no `Option`, since the day writes every one, and each reader would unpack it for nothing.
 pub fn turns(
     heap: Global,
     messages: &[Result<Message<'_>, FileFault>],

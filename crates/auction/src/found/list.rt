@@ -3,20 +3,8 @@ ghost use Rattle.std.specs.Prelude.{◌≡◌, ◌+◌, ◌≤◌, [], ◌∷◌
 ghost use Rattle.auction.specs.Orders.{listed, size};
 
 use super::FoundOrders;
+use arrayvec::ArrayVec;
 use orders::found::FoundOrder;
-use orders::{Kind, Side};
-
-const PLACES: usize = 128;
-
-const NOTHING: FoundOrder = FoundOrder {
-    number: 0,
-    entry: 0,
-    kind: Kind::Market,
-    side: Side::Buy,
-    broker: 0,
-    standing: 0,
-    shares: 0,
-};
 
 impl FoundOrders {
     pub fn new() -> FoundOrders
@@ -24,8 +12,7 @@ impl FoundOrders {
         ensures size { size result ≡ 0 }
     {
         FoundOrders {
-            places: [NOTHING; PLACES],
-            count: 0,
+            orders: ArrayVec::new(),
         }
     }
 
@@ -35,19 +22,13 @@ impl FoundOrders {
         ensures size { size self.new ≡ (if result then size self.old + 1 else size self.old) }
         ensures after { listed self.new ≡ (if result then listed self.old ++ (order ∷ []) else listed self.old) }
     {
-        let count = self.count;
-        if count >= PLACES {
-            return false;
-        }
-        self.places[count] = order;
-        self.count = count + 1;
-        true
+        self.orders.try_push(order).is_ok()
     }
 
     pub fn as_slice(&self) -> &[FoundOrder]
         ensures value { result.now ≡ listed self.now }
         ensures few { length result.now ≤ 128 }
     {
-        &self.places[0..self.count]
+        self.orders.as_slice()
     }
 }

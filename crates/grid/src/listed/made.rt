@@ -1,23 +1,28 @@
 // How a listed grid is made, and what it answers.
-ghost use Rattle.std.specs.Prelude.{◌≡◌, true, false, MatchResult};
-ghost use Rattle.grid.specs.Lists.{rising, list_of_prices, first_from, last_to};
+ghost use Rattle.std.specs.Prelude.{⊤, ◌≡◌, true, false, MatchResult};
+ghost use Rattle.grid.specs.Lists.{rising, list_of_prices};
 ghost use Rattle.grid.specs.Listing.{listed, grid_number};
 ghost use Rattle.grid.specs.Prices.{among};
 ghost use Rattle.grid.specs.Rising.{passed};
 ghost use Rattle.grid.specs.Rising;
 
 use super::{Listed, NotAGrid};
-use crate::{Grid, PriceSet};
-
-const MOST: usize = 64;
-
-const HIGHEST: u32 = 1_000_000_000;
+use crate::{Grid, HIGHEST, PriceSet};
+use arrayvec::{ArrayVec, CapacityError};
+use std::alloc::AllocError;
 
 impl NotAGrid {
+    // A method, as every refusal has one: `u8::from(fault)` would not say that it is the number.
     pub fn number(self) -> u8
         ensures { result ≡ grid_number self }
     {
         1
+    }
+}
+
+impl From<CapacityError> for NotAGrid {
+    fn from(_too_many: CapacityError) -> NotAGrid {
+        NotAGrid
     }
 }
 
@@ -35,47 +40,32 @@ fn is_rising(prices: &[u32]) -> bool
     true
 }
 
-fn first_from(prices: &[u32], n: u32) -> u32
-    ensures { result ≡ first_from n prices.now }
-{
-    for p in prices {
-        if *p >= n {
-            return *p;
-        }
-    }
-    0
-}
-
-fn last_to(prices: &[u32], n: u32) -> u32
-    ensures { result ≡ last_to 0 n prices.now }
-{
-    let mut best = 0;
-    for p in prices {
-        if *p > n {
-            return best;
-        }
-        best = *p;
-    }
-    best
-}
-
 impl Listed {
     pub fn new(given: &[u32]) -> Result<Listed, NotAGrid>
         ensures { MatchResult result (λ g. (list_of_prices given.now ≡ true) × (listed g ≡ given.now)) (λ _. list_of_prices given.now ≡ false) }
     {
-        let count = given.len();
-        if count == 0 || count > MOST || !is_rising(given) {
+        let prices = ArrayVec::try_from(given)?;
+        if prices.is_empty() || !is_rising(given) {
             return Err(NotAGrid);
         }
-        let mut prices = [0; MOST];
-        prices[0..count].copy_from_slice(given);
-        Ok(Listed { prices, count })
+        Ok(Listed { prices })
     }
 
     pub fn prices(&self) -> &[u32]
         ensures { result.now ≡ listed self.now }
     {
-        &self.prices[0..self.count]
+        self.prices.as_slice()
+    }
+}
+
+impl Clone for Listed {
+    ghost is_clone = { λ g h. listed h ≡ listed g };
+
+    ghost is_infallible = { λ _. ⊤ };
+
+    fn clone(&self) -> Result<Listed, AllocError> {
+        let prices = self.prices.clone()?;
+        Ok(Listed { prices })
     }
 }
 
@@ -85,11 +75,17 @@ impl PriceSet for Listed {
     ghost ranged = { λ g p h. Rising.ranged 0 (listed g) (passed (listed g) g.sound).up p h };
 
     fn at_or_above(&self, n: u32) -> u32 {
-        first_from(self.prices(), n)
+        let prices = self.prices();
+        let below = prices.partition_point(|p| *p < n);
+        prices.get(below).copied().unwrap_or(0)
     }
 
     fn at_or_below(&self, n: u32) -> u32 {
-        last_to(self.prices(), n)
+        let prices = self.prices();
+        match prices.partition_point(|p| *p <= n).checked_sub(1) {
+            Some(last) => prices[last],
+            None => 0,
+        }
     }
 }
 

@@ -1,10 +1,10 @@
-use Rattle.std.proofs.Common.{◌+◌, ◌<◌, ◌≤◌, [], length, get_or, take, sym, refl, ap, ◌∙◌, subst, inr, append-nil, arith}
+use Rattle.std.proofs.Common.{◌+◌, ◌<◌, ◌≤◌, [], length, get_or, sym, refl, ap, ◌∙◌, subst, inr, append-nil, arith}
 use Rattle.priority.specs.Pairs.{pair_name}
 use Rattle.allocation.specs.Holdings.{left_of, all_left, vacant, given_up, live_pairs, no_pair}
 use Rattle.allocation.specs.Naming.{Apart, by_name, trade_of, NamesFound}
 use Rattle.allocation.specs.Trades.{Greedy}
 use Rattle.allocation.proofs.Listing.{pairs_fit, no_pair_with}
-use Rattle.allocation.proofs.Pushing.{room, ended, still_inside, still_room, added, spent_buy, some_buy, buys_end, push_mapped, kept_behind, shares_more, all_more}
+use Rattle.allocation.proofs.Pushing.{room, still_inside, still_room, some_buy, push_mapped, kept_behind, shares_more, all_more}
 use Rattle.allocation.proofs.Trading.{pairs_kept, still_apart, live, live_le, all_traded, both_live, fewer, still_sums, none_listed, named, greedy_more, first_standing, first_unbeaten}
 use Rattle.allocation.proofs.greedy.trade_all.Goals as goal
 
@@ -22,12 +22,6 @@ trades-init g c = (
   tt,
 )
 
-pub loop-i-preserved-then-buy-eq0 : goal.loop-i-preserved-then-buy-eq0
-loop-i-preserved-then-buy-eq0 g c = (
-  c.loop-i.invariant.0,
-  spent_buy c.trades.buys c.trades.sells _ _ c.loop-i-test.true _ _ c.loop-i.invariant.1 c.if-buy-eq0.true,
-)
-
 pub add_pairs-more-requires : goal.add_pairs-more-requires
 add_pairs-more-requires g c =
     let fits : length (live_pairs 0 c.trades.buys c.trades.sells) ≤ length c.loop-i.pairs =
@@ -35,29 +29,19 @@ add_pairs-more-requires g c =
     room c.loop-i.pairs c.loop-i.listed _ _ _ c.loop-i.invariant.0 fits
     (some_buy c.trades.buys c.trades.sells _ _ c.loop-i-test.true _ _ c.loop-i.invariant.1 c.if-buy-eq0.false)
 
-pub loop-i-preserved : goal.loop-i-preserved
-loop-i-preserved g c = (
-  c.add_pairs-more.ensures.within,
-  added (take c.loop-i.listed c.loop-i.pairs) _ _ _ _ c.add_pairs-more.ensures.after
-      (some_buy c.trades.buys c.trades.sells _ _ c.loop-i-test.true _ _ c.loop-i.invariant.1 c.if-buy-eq0.false),
-)
-
 pub trade_pair-shares-requires : goal.trade_pair-shares-requires
 trade_pair-shares-requires g c =
-    let whole = ended c.loop-i.pairs c.loop-i.listed _ (buys_end c.trades.buys c.trades.sells c.loop-i.i _ _ c.loop-i-test.false c.loop-i.invariant.1) in
-    let stand = first_standing (g.R.PairingRule.ahead c.args.rule.now.rule) c.trades.buys c.trades.sells c.loop-i.pairs c.loop-i.listed c.in-Some.k c.loop-i.invariant.0 whole c.in-Some.ensures in
+    let stand = first_standing (g.R.PairingRule.ahead c.args.rule.now.rule) c.trades.buys c.trades.sells c.loop-i.pairs c.loop-i.i c.loop-i.listed c.in-Some.k c.loop-i.invariant.0 c.loop-i-test.false c.loop-i.invariant.1 c.in-Some.ensures in
     record { buy = stand.0.0; sell = stand.1.0 }
 
 pub bounds-fills-count : goal.bounds-fills-count
 bounds-fills-count g c =
-    let whole = ended c.loop-i.pairs c.loop-i.listed _ (buys_end c.trades.buys c.trades.sells c.loop-i.i _ _ c.loop-i-test.false c.loop-i.invariant.1) in
-    let stand = first_standing (g.R.PairingRule.ahead c.args.rule.now.rule) c.trades.buys c.trades.sells c.loop-i.pairs c.loop-i.listed c.in-Some.k c.loop-i.invariant.0 whole c.in-Some.ensures in
+    let stand = first_standing (g.R.PairingRule.ahead c.args.rule.now.rule) c.trades.buys c.trades.sells c.loop-i.pairs c.loop-i.i c.loop-i.listed c.in-Some.k c.loop-i.invariant.0 c.loop-i-test.false c.loop-i.invariant.1 c.in-Some.ensures in
     omega (arith, c.trades.invariant.3, both_live c.trades.buys c.trades.sells _ stand.0 stand.1)
 
 pub trades-smaller : goal.trades-smaller
 trades-smaller g c =
-    let whole = ended c.loop-i.pairs c.loop-i.listed _ (buys_end c.trades.buys c.trades.sells c.loop-i.i _ _ c.loop-i-test.false c.loop-i.invariant.1) in
-    let stand = first_standing (g.R.PairingRule.ahead c.args.rule.now.rule) c.trades.buys c.trades.sells c.loop-i.pairs c.loop-i.listed c.in-Some.k c.loop-i.invariant.0 whole c.in-Some.ensures in
+    let stand = first_standing (g.R.PairingRule.ahead c.args.rule.now.rule) c.trades.buys c.trades.sells c.loop-i.pairs c.loop-i.i c.loop-i.listed c.in-Some.k c.loop-i.invariant.0 c.loop-i-test.false c.loop-i.invariant.1 c.in-Some.ensures in
     let traded = c.trade_pair-shares.ensures in
     let less : live c.trade_pair-shares.new.buys + live c.trade_pair-shares.new.sells < live c.trades.buys + live c.trades.sells =
     omega (arith, fewer c.trades.buys c.trades.sells _ stand.0 stand.1 _ traded.shares, ap live traded.bought, ap live traded.sold) in
@@ -71,9 +55,8 @@ trades-preserved g c =
     let ss = c.trades.sells in
     let p = get_or c.loop-i.pairs c.in-Some.k no_pair in
     let inv = c.trades.invariant in
-    let whole = ended c.loop-i.pairs c.loop-i.listed _ (buys_end c.trades.buys c.trades.sells c.loop-i.i _ _ c.loop-i-test.false c.loop-i.invariant.1) in
-    let stand = first_standing (g.R.PairingRule.ahead c.args.rule.now.rule) c.trades.buys c.trades.sells c.loop-i.pairs c.loop-i.listed c.in-Some.k c.loop-i.invariant.0 whole c.in-Some.ensures in
-    let unbeaten = first_unbeaten ahead bs ss c.loop-i.pairs c.loop-i.listed c.in-Some.k c.loop-i.invariant.0 whole c.in-Some.ensures in
+    let stand = first_standing (g.R.PairingRule.ahead c.args.rule.now.rule) c.trades.buys c.trades.sells c.loop-i.pairs c.loop-i.i c.loop-i.listed c.in-Some.k c.loop-i.invariant.0 c.loop-i-test.false c.loop-i.invariant.1 c.in-Some.ensures in
+    let unbeaten = first_unbeaten ahead bs ss c.loop-i.pairs c.loop-i.i c.loop-i.listed c.in-Some.k c.loop-i.invariant.0 c.loop-i-test.false c.loop-i.invariant.1 c.in-Some.ensures in
     let n = c.trade_pair-shares.result in
     let traded = c.trade_pair-shares.ensures in
     let inside = bounds-fills-count g c in
@@ -95,27 +78,24 @@ trades-preserved g c =
           (sym (inv.2 (pair_name p.pair) ∙ named bs ss inv.0 inv.1 p stand.0 stand.1)),
     )
 
-pub returns-then-more-listed : goal.returns-then-more-listed
-returns-then-more-listed g c =
+pub returns-then-more-listed-clause-greedy : goal.returns-then-more-listed-clause-greedy
+returns-then-more-listed-clause-greedy g c =
     let before = by_name (g.R.PairingRule.ahead c.args.rule.now.rule) c.args.buys.now c.args.sells.now in
     let spent = no_pair_with (get_or c.trades.buys c.loop-i.i vacant) c.loop-i.i c.trades.sells (omega (arith, c.if-more-listed.true, c.add_pairs-more.ensures.count)) in
-    record {
-      within = c.trades.invariant.4;
-      greedy = subst (Greedy before (left_of c.args.buys.now) (left_of c.args.sells.now)) (append-nil _) (c.trades.invariant.6 [] (inr spent));
-      all = all_traded c.trades.buys c.trades.sells c.trades.invariant.0 c.trades.invariant.1 (inr spent) _ _ _ c.trades.invariant.7 c.trades.invariant.8;
-      found = c.trades.invariant.9;
-      others = c.trades.invariant.5;
-    }
+    subst (Greedy before (left_of c.args.buys.now) (left_of c.args.sells.now)) (append-nil _) (c.trades.invariant.6 [] (inr spent))
 
-pub returns-in-None : goal.returns-in-None
-returns-in-None g c =
+pub returns-then-more-listed-clause-all : goal.returns-then-more-listed-clause-all
+returns-then-more-listed-clause-all g c =
+    let spent = no_pair_with (get_or c.trades.buys c.loop-i.i vacant) c.loop-i.i c.trades.sells (omega (arith, c.if-more-listed.true, c.add_pairs-more.ensures.count)) in
+    all_traded c.trades.buys c.trades.sells c.trades.invariant.0 c.trades.invariant.1 (inr spent) _ _ _ c.trades.invariant.7 c.trades.invariant.8
+
+pub returns-in_default-clause-greedy : goal.returns-in_default-clause-greedy
+returns-in_default-clause-greedy g c =
     let before = by_name (g.R.PairingRule.ahead c.args.rule.now.rule) c.args.buys.now c.args.sells.now in
-    let whole = ended c.loop-i.pairs c.loop-i.listed _ (buys_end c.trades.buys c.trades.sells c.loop-i.i _ _ c.loop-i-test.false c.loop-i.invariant.1) in
-    let done = none_listed c.trades.buys c.trades.sells c.trades.invariant.0 c.trades.invariant.1 (ap length (sym whole) ∙ c.in-None.ensures) in
-    record {
-      within = c.trades.invariant.4;
-      greedy = subst (Greedy before (left_of c.args.buys.now) (left_of c.args.sells.now)) (append-nil _) (c.trades.invariant.6 [] done);
-      all = all_traded c.trades.buys c.trades.sells c.trades.invariant.0 c.trades.invariant.1 done _ _ _ c.trades.invariant.7 c.trades.invariant.8;
-      found = c.trades.invariant.9;
-      others = c.trades.invariant.5;
-    }
+    let done = none_listed c.trades.buys c.trades.sells c.trades.invariant.0 c.trades.invariant.1 c.loop-i.pairs c.loop-i.i c.loop-i.listed c.loop-i-test.false c.loop-i.invariant.1 c.in_default.ensures in
+    subst (Greedy before (left_of c.args.buys.now) (left_of c.args.sells.now)) (append-nil _) (c.trades.invariant.6 [] done)
+
+pub returns-in_default-clause-all : goal.returns-in_default-clause-all
+returns-in_default-clause-all g c =
+    let done = none_listed c.trades.buys c.trades.sells c.trades.invariant.0 c.trades.invariant.1 c.loop-i.pairs c.loop-i.i c.loop-i.listed c.loop-i-test.false c.loop-i.invariant.1 c.in_default.ensures in
+    all_traded c.trades.buys c.trades.sells c.trades.invariant.0 c.trades.invariant.1 done _ _ _ c.trades.invariant.7 c.trades.invariant.8

@@ -1,16 +1,7 @@
-use Rattle.std.proofs.Common.{refl, ◌∙◌, arith}
+use Rattle.std.proofs.Common.{◌∙◌, arith}
 use Rattle.allocation.specs.Holdings.{pairs_with}
-use Rattle.allocation.proofs.Pushing.{pushed, room_for_one, still_inside, ended, counted, length_behind, spent_over, paired_in, pairs_end}
+use Rattle.allocation.proofs.Pushing.{pushed, room_for_one, still_inside, ended, counted, length_behind, paired_in, pairs_end}
 use Rattle.allocation.proofs.held.add_pairs.Goals as goal
-
-pub loop-j-init : goal.loop-j-init
-loop-j-init c = (omega (arith, c.requires), refl)
-
-pub loop-j-preserved-then-sell-eq0 : goal.loop-j-preserved-then-sell-eq0
-loop-j-preserved-then-sell-eq0 c = (
-  c.loop-j.invariant.0,
-  spent_over c.args.buy c.args.place _ _ _ c.loop-j-test.true _ _ c.loop-j.invariant.1 c.if-sell-eq0.true,
-)
 
 pub bounds-pairs-listed : goal.bounds-pairs-listed
 bounds-pairs-listed c =
@@ -24,12 +15,8 @@ loop-j-preserved c =
     let next = paired_in c.args.buy c.args.place _ _ _ c.loop-j-test.true _ _ c.loop-j.invariant.1 c.if-sell-eq0.false in
     (still_inside c.loop-j.pairs c.loop-j.listed _ inside, pushed c.loop-j.pairs c.loop-j.listed _ _ _ inside next)
 
-pub returns : goal.returns
-returns c =
+pub returns-clause-count : goal.returns-clause-count
+returns-clause-count c =
     let more = pairs_with c.args.buy c.args.place 0 c.args.sells.now in
     let whole = ended c.loop-j.pairs c.loop-j.listed _ (pairs_end c.args.buy c.args.place c.args.sells.now c.loop-j.j _ _ c.loop-j-test.false c.loop-j.invariant.1) in
-    record {
-      within = c.loop-j.invariant.0;
-      count = counted c.loop-j.pairs c.loop-j.listed _ c.loop-j.invariant.0 whole ∙ length_behind c.args.pairs.now c.args.count more c.requires;
-      after = whole;
-    }
+    counted c.loop-j.pairs c.loop-j.listed _ c.loop-j.invariant.0 whole ∙ length_behind c.args.pairs.now c.args.count more c.requires

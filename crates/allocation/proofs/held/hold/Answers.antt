@@ -1,27 +1,24 @@
-use Rattle.std.proofs.Common.{◌<◌, ◌≤◌, length, sym, ap, ◌∙◌, arith, rules}
-use Rattle.allocation.specs.Holdings.{held}
-use Rattle.allocation.proofs.Pushing.{pushed, ended, counted, passed_over, taken_in, held_end}
+use Rattle.std.proofs.Common.{◌≡◌, rules, ap, ◌∙◌, arith}
+use borrow.Author.Tests.{tests}
+use Rattle.std.proofs.lemmas.Iterator.{YieldsList-from_slice, YieldsList-from_map}
+use Rattle.std.proofs.lemmas.Iterator.Consumers.{YieldsList-from_filter, YieldsList-at}
+use Rattle.std.specs.Prelude.{IsOk}
+use Rattle.allocation.specs.Holdings.{takes_part, whole, held}
+use Rattle.allocation.proofs.Eligible.{held_few}
+use Rattle.allocation.proofs.Extending.{takes_all}
 use Rattle.allocation.proofs.held.hold.Goals as goal
 
-pub loop-order-preserved-then-not-takes_part : goal.loop-order-preserved-then-not-takes_part
-loop-order-preserved-then-not-takes_part c = (
-  c.loop-order.invariant.0,
-  omega (arith, c.loop-order.invariant.1),
-  passed_over c.args.side c.args.price _ _ _ c.loop-order-test.true _ _ c.loop-order.invariant.2 (sym c.if-not-takes_part.ensures),
-)
+taken : (c : goal.After-extend) → IsOk c.extend.result × (c.extend.new.self.items ≡ held c.args.side c.args.price c.as_slice.result.now)
+taken c =
+    takes_all c.extend.result _ c.new-held.result.items c.extend.new.self.items c.new-held.ensures
+    (omega (arith, held_few c.args.side c.args.price c.as_slice.result.now, c.as_slice.ensures.few))
+    (YieldsList-from_map _ whole
+    (YieldsList-at c.map.ensures.source (YieldsList-from_filter _ (takes_part c.args.side c.args.price) (YieldsList-at c.filter.ensures.source (YieldsList-from_slice c.as_slice.result.now (cc))) c.filter.ensures.closure (λ x b q k. search (rules, tests))))
+    c.map.ensures.closure (λ x r q k. search rules))
+    c.extend.ensures.ran c.extend.ensures.full c.extend.ensures.one_more
 
-pub loop-order-preserved : goal.loop-order-preserved
-loop-order-preserved c =
-    let room : c.loop-order.count < length c.loop-order.places = omega (arith, c.loop-order.invariant.0, c.loop-order.invariant.1, c.as_slice-order-items.ensures.few) in (
-      search rules,
-      omega (arith, c.loop-order.invariant.1),
-      pushed c.loop-order.places c.loop-order.count _ _ _ room
-          (taken_in c.args.side c.args.price _ _ _ c.loop-order-test.true _ _ c.loop-order.invariant.2 (sym c.if-not-takes_part.ensures)),
-    )
+pub unwrap-requires : goal.unwrap-requires
+unwrap-requires c = (taken c).0
 
 pub returns : goal.returns
-returns c =
-    let items = c.as_slice-order-items.result.now in
-    let room : c.loop-order.count ≤ length c.loop-order.places = omega (arith, c.loop-order.invariant.0, c.loop-order.invariant.1, c.as_slice-order-items.ensures.few) in
-    let whole = ended c.loop-order.places c.loop-order.count _ (held_end c.args.side c.args.price items c.loop-order.order-index _ _ c.loop-order-test.false c.loop-order.invariant.2) ∙ ap (held c.args.side c.args.price) c.as_slice-order-items.ensures.value in
-    record { count = counted c.loop-order.places c.loop-order.count _ room whole; after = whole }
+returns c = (taken c.before).1 ∙ ap (held c.args.side c.args.price) c.as_slice.ensures.value
