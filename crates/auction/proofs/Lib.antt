@@ -4,4 +4,3 @@ pub mod Leading
 pub mod Choosing
 pub mod Moving
 pub mod Listing
-pub mod Banding

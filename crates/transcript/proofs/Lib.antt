@@ -1,5 +1,4 @@
 pub mod Loops
-pub mod Asking
 pub mod Pairing
 pub mod Standing
 pub mod Midpoints
