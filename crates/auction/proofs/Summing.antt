@@ -20,6 +20,7 @@ counted test orders i d t r b inside told e more = more ∙ λ j. (on Buy t.0 (a
         omega (arith, so_far, brings, sum_by_more (shares_if test side) orders i d inside)
 
 -- and the same among the closing orders
-pub counted_closing : (test : FoundOrder → Bool) (orders : List FoundOrder) (i : ℕ) (d : FoundOrder) (t r : ℕ × ℕ) (b k : Bool) → i < length orders → b ≡ test (get_or orders i d) → k ≡ closing_and (λ _. b) (get_or orders i d) → t ≡ shares_of (closing_and test) (take i orders) → r ≡ one_more (λ _. k) (get_or orders i d) t → r ≡ shares_of (closing_and test) (take (i + 1) orders)
-counted_closing test orders i d t r b k inside told is =
-    counted (closing_and test) orders i d t r k inside (is ∙ ap (λ c. closing_and (λ _. c) (get_or orders i d)) told)
+pub counted_closing : (test : FoundOrder → Bool) (orders : List FoundOrder) (i : ℕ) (d : FoundOrder) (t r : ℕ × ℕ) (b : Bool) → i < length orders → b ≡ test (get_or orders i d) → t ≡ shares_of (closing_and test) (take i orders) → r ≡ one_more (closing_and (λ _. b)) (get_or orders i d) t → r ≡ shares_of (closing_and test) (take (i + 1) orders)
+counted_closing test orders i d t r b inside told so_far more =
+    let o = get_or orders i d in
+    counted (closing_and test) orders i d t r (closing_and (λ _. b) o) inside (ap (λ c. closing_and (λ _. c) o) told) so_far more

@@ -8,12 +8,12 @@ use reference::Reference;
 use threshold::fail_band;
 
 // The prices of a set that lie in the fail band. Set and reference come as two: one is the venue's, the other the book's.
-pub fn in_fail_band<S: PriceSet>(prices: &S, reference: Reference) -> Band<&S>
-    ensures { OpenInFailBand (S.holds prices.now) (twice reference) (between (S.holds result.prices.now) result.low result.high) }
+pub fn in_fail_band<S: PriceSet + Copy>(prices: &S, reference: Reference) -> Band<S>
+    ensures { OpenInFailBand (S.holds prices.now) (twice reference) (between (S.holds result.prices) result.low result.high) }
 {
     let range = fail_band(reference);
     Band {
-        prices,
+        prices: *prices,
         low: range.low,
         high: range.high,
     }

@@ -1,11 +1,14 @@
 // The orders that a call finds: at most 128.
-use arrayvec::ArrayVec;
+ghost use Rattle.std.specs.Prelude.{◌≤◌};
+
+use fixed_list::FixedList;
 use orders::found::FoundOrder;
 use orders::table::MOST_ORDERS;
 
 pub mod list;
 
-#[derive(Clone, Drop)]
+#[derive(Clone, Copy)]
 pub struct FoundOrders {
-    orders: ArrayVec<FoundOrder, MOST_ORDERS>,
+    orders: FixedList<FoundOrder, MOST_ORDERS>,
+    ghost few: { orders.count ≤ 128 },
 }

@@ -29,24 +29,31 @@ pub fn is_eligible(order: &FoundOrder, price: u32) -> bool
 }
 
 // The totals with one order more, if it counts.
-fn with_order(totals: (u64, u64), order: &FoundOrder, counts: bool) -> (u64, u64)
-    requires { (totals.0 + 2 ^ 32 ≤ 2 ^ 64) × (totals.1 + 2 ^ 32 ≤ 2 ^ 64) }
-    ensures value { result ≡ one_more (λ _. counts) order.now totals }
-    ensures small { (result.0 ≤ totals.0 + 2 ^ 32) × (result.1 ≤ totals.1 + 2 ^ 32) }
+fn with_order(totals: FourTotals, order: &FoundOrder, counts: bool) -> FourTotals
+    requires all { (totals.all.0 + 2 ^ 32 ≤ 2 ^ 64) × (totals.all.1 + 2 ^ 32 ≤ 2 ^ 64) }
+    requires closing { (totals.closing.0 + 2 ^ 32 ≤ 2 ^ 64) × (totals.closing.1 + 2 ^ 32 ≤ 2 ^ 64) }
+    ensures all { result.all ≡ one_more (λ _. counts) order.now totals.all }
+    ensures closing { result.closing ≡ one_more (closing_and (λ _. counts)) order.now totals.closing }
+    ensures small { (result.all.0 ≤ totals.all.0 + 2 ^ 32) × (result.all.1 ≤ totals.all.1 + 2 ^ 32) }
+    ensures small_closing { (result.closing.0 ≤ totals.closing.0 + 2 ^ 32) × (result.closing.1 ≤ totals.closing.1 + 2 ^ 32) }
 {
-    let (buys, sells) = totals;
-    let shares = if counts { u64::from(order.shares) } else { 0 };
-    match order.side {
-        Side::Buy => (buys + shares, sells),
-        Side::Sell => (buys, sells + shares),
+    if !counts {
+        return totals;
     }
-}
-
-// Whether an order counts among the closing orders.
-fn counts_as_closing(order: &FoundOrder, counts: bool) -> bool
-    ensures { result ≡ closing_and (λ _. counts) order.now }
-{
-    order.kind.is_closing() && counts
+    let shares = u64::from(order.shares);
+    let closing = if order.kind.is_closing() { shares } else { 0 };
+    let (buys, sells) = totals.all;
+    let (closing_buys, closing_sells) = totals.closing;
+    match order.side {
+        Side::Buy => FourTotals {
+            all: (buys + shares, sells),
+            closing: (closing_buys + closing, closing_sells),
+        },
+        Side::Sell => FourTotals {
+            all: (buys, sells + shares),
+            closing: (closing_buys, closing_sells + closing),
+        },
+    }
 }
 
 // The shares of the orders that count, in one pass over the orders.
@@ -55,14 +62,14 @@ fn shares_of<F: Fn(&FoundOrder) -> bool>(orders: &FoundOrders, counts: F) -> Fou
     ensures all { (test : FoundOrder → Bool) → Tells F.Fn counts test → result.all ≡ shares_of test (listed orders.now) }
     ensures closing { (test : FoundOrder → Bool) → Tells F.Fn counts test → result.closing ≡ shares_of (closing_and test) (listed orders.now) }
 {
-    let mut all = (0, 0);
-    let mut closing = (0, 0);
+    let mut sums = FourTotals {
+        all: (0, 0),
+        closing: (0, 0),
+    };
     for order in orders.as_slice() {
-        let counted = counts(order);
-        all = with_order(all, order, counted);
-        closing = with_order(closing, order, counts_as_closing(order, counted));
+        sums = with_order(sums, order, counts(order));
     }
-    FourTotals { all, closing }
+    sums
 }
 
 // The eligible shares at a price.

@@ -3,7 +3,7 @@ use Rattle.std.specs.Prelude.{ℕ, ◌+◌, ◌-◌, Bool, cond, not, ◌&&◌, 
 use Rattle.std.specs.List.{list_any}
 use Rattle.auction.specs.Totals.{reaches}
 use Rattle.orders.specs.Kinds.{is_displayed, same_side, more_aggressive}
-use Rattle.orders.specs.Tables.{blank, listed, size, table_of, known, with_order, with_more}
+use Rattle.orders.specs.Tables.{blank, listed, size, no_orders, known, with_order, with_more}
 use Rattle.orders.specs.declared.Entry.{Entry}
 use Rattle.orders.specs.declared.Kind.{Kind}
 use Rattle.orders.specs.declared.Kind.TheVariants.{Market, Limit, Displayed}
@@ -21,7 +21,7 @@ use Rattle.book.specs.declared.State.TheVariants as state
 -- The opening
 
 abbrev pub opened : ℕ → Book
-opened close = record { table = table_of []; entries = 0; previous_close = close; last_sale = None; state = state.Entry }
+opened close = record { table = no_orders; entries = 0; previous_close = close; last_sale = None; state = state.Entry }
 
 abbrev pub opening : (ℕ → Bool) → ℕ → Result Book Refusal
 opening holds close = cond (holds close) (Ok (opened close)) (Err BadOpening)
@@ -30,7 +30,7 @@ opening holds close = cond (holds close) (Ok (opened close)) (Err BadOpening)
 
 -- what the book records of the order with a number
 abbrev pub recorded : Book → ℕ → Order
-recorded b number = slice_index_or (listed b.table) (number - 1) blank
+recorded b number = slice_index_or b.table.orders.places (number - 1) blank
 
 abbrev pub with_left : Order → ℕ → Order
 with_left o left =

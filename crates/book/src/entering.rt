@@ -172,7 +172,7 @@ impl Book {
         if self.is_outside_band(entry.limit) {
             return Err(Refusal::NoOffset(Offset::OutsideBand));
         }
-        let number = self.table.orders.len() as u16 + 1;
+        let number = self.table.orders.count as u16 + 1;
         self.entries += 1;
         let order = new_order(number, self.entries, self.phase(), entry);
         let _ = self.table.push(order);

@@ -47,7 +47,7 @@ pub enum State {
     },
 }
 
-#[derive(Clone, Debug, PartialEq, Eq, Drop)]
+#[derive(Clone, Copy, Debug, PartialEq, Eq)]
 pub struct Book {
     pub table: OrderTable,
     // Entry numbers used: each accepted entry or amendment takes the next.

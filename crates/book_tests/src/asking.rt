@@ -21,7 +21,7 @@ fn ask<G: Grid, R: PairingRule>(venue: &Venue<G, R>, book: &mut Book, request: R
 // How many orders and entry numbers there are, the previous close and the last sale, 0 where there was none.
 pub fn book_fields(book: &Book) -> [u64; 4] {
     [
-        book.table.orders.len() as u64,
+        book.table.orders.count as u64,
         u64::from(book.entries),
         u64::from(book.previous_close),
         u64::from(book.last_sale.unwrap_or(0)),
@@ -61,7 +61,7 @@ pub fn says<G: Grid, R: PairingRule>(
     expected: Said,
     place: usize,
 ) -> Result<(), Fail> {
-    let before = book.clone()?;
+    let before = *book;
     let said = ask(venue, book, request);
     assert_eq!(rt; said, expected, "at {place}");
     match said {
@@ -96,9 +96,9 @@ pub fn by_phase(
     expected: [Said; 4],
 ) -> Result<(), Fail> {
     for (place, (phase, expected)) in OPEN_PHASES.iter().zip(&expected).enumerate() {
-        let mut book = in_phase(book, *phase)?;
+        let mut book = in_phase(book, *phase);
         says(rt, &VENUE, &mut book, request, *expected, place)?;
     }
-    let mut book = in_phase(book, Phase::Closed)?;
+    let mut book = in_phase(book, Phase::Closed);
     says(rt, &VENUE, &mut book, request, Err(2), 4)
 }

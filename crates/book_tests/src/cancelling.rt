@@ -32,7 +32,7 @@ fn closing_orders_are_cancelled_in_the_entry_phase_and_displayed_ones_up_to_the_
 
 #[test]
 fn what_is_entered_in_the_freeze_follows_its_kind(rt: HostRuntime) -> Result<(), Fail> {
-    let mut book = in_phase(&busy_book()?, Phase::Freeze)?;
+    let mut book = in_phase(&busy_book()?, Phase::Freeze);
     in_turn(
         &rt,
         &VENUE,

@@ -131,7 +131,7 @@ fn orders_are_numbered_in_turn(rt: HostRuntime) -> Result<(), Fail> {
 
 #[test]
 fn an_order_is_recorded_as_it_was_entered(rt: HostRuntime) -> Result<(), Fail> {
-    let mut book = in_phase(&busy_book()?, Phase::Imbalance)?;
+    let mut book = in_phase(&busy_book()?, Phase::Imbalance);
     let entry = Entry {
         kind: Kind::Limit,
         side: Side::Sell,

@@ -63,7 +63,7 @@ fn an_entry_is_tested_for_volume_then_price_then_kind(rt: HostRuntime) -> Result
 fn in_the_extension_the_side_is_tested_then_the_volume_then_the_band(
     rt: HostRuntime,
 ) -> Result<(), Fail> {
-    let mut book = in_phase(&busy_book()?, Phase::Extension)?;
+    let mut book = in_phase(&busy_book()?, Phase::Extension);
     let cases = [
         (market(Side::Sell, 301), Err(6)),
         (displayed(Side::Sell, 99_900, 301), Err(6)),

@@ -86,10 +86,11 @@ fn state_in(phase: Phase) -> State {
 }
 
 // The book in a phase. An extension advertises 300 shares to sell.
-pub fn in_phase(book: &Book, phase: Phase) -> Result<Book, Fail> {
-    let mut book = book.clone()?;
-    book.state = state_in(phase);
-    Ok(book)
+pub fn in_phase(book: &Book, phase: Phase) -> Book {
+    Book {
+        state: state_in(phase),
+        ..*book
+    }
 }
 
 // A previous close of 10.00 dollars, and no orders.

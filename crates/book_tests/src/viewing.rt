@@ -67,7 +67,7 @@ fn the_extension_has_its_own_references_and_the_closed_book_none(
 ) -> Result<(), Fail> {
     let mut book = busy_book()?;
     for phase in [Phase::Entry, Phase::Imbalance, Phase::Freeze] {
-        assert_eq!(rt; doubled(&in_phase(&book, phase)?)?, (200_100, 200_100));
+        assert_eq!(rt; doubled(&in_phase(&book, phase))?, (200_100, 200_100));
     }
     book.state = State::Extension {
         reference: Reference::of_sales(None, 98_000),
@@ -76,7 +76,7 @@ fn the_extension_has_its_own_references_and_the_closed_book_none(
         remains: 0,
     };
     assert_eq!(rt; doubled(&book)?, (196_000, 194_000));
-    assert!(rt; in_phase(&book, Phase::Closed)?.references().is_none());
+    assert!(rt; in_phase(&book, Phase::Closed).references().is_none());
     Ok(())
 }
 
@@ -91,7 +91,7 @@ fn the_result_is_four_zeros_until_the_book_is_closed(rt: HostRuntime) -> Result<
             fills: 0,
             imbalance: 0,
         };
-        assert_eq!(rt; in_phase(&book, phase)?.result(), none);
+        assert_eq!(rt; in_phase(&book, phase).result(), none);
     }
     let closed = Outcome {
         phase: Phase::Closed,
@@ -100,13 +100,13 @@ fn the_result_is_four_zeros_until_the_book_is_closed(rt: HostRuntime) -> Result<
         fills: 3,
         imbalance: 50,
     };
-    assert_eq!(rt; in_phase(&book, Phase::Closed)?.result(), closed);
+    assert_eq!(rt; in_phase(&book, Phase::Closed).result(), closed);
     Ok(())
 }
 
 #[test]
 fn a_closed_book_has_no_totals_and_no_notice(rt: HostRuntime) -> Result<(), Fail> {
-    let book = in_phase(&busy_book()?, Phase::Closed)?;
+    let book = in_phase(&busy_book()?, Phase::Closed);
     match (book.totals(&VENUE, 100_000), book.notice(&VENUE)) {
         (Err(totals), Err(notice)) => {
             assert_eq!(rt; totals.number(), 2);
@@ -131,12 +131,12 @@ fn a_notice_counts_closing_orders_at_the_reference(rt: HostRuntime) -> Result<()
         limit(Side::Sell, 100_100, 90),
     ])?;
     for phase in [Phase::Entry, Phase::Imbalance, Phase::Freeze] {
-        notice_is(&rt, &in_phase(&book, phase)?, [200_100, 250, 250, 200])?;
+        notice_is(&rt, &in_phase(&book, phase), [200_100, 250, 250, 200])?;
     }
     // at 10.00, the reference of the extension, a buy at 10.00 counts as well
     notice_is(
         &rt,
-        &in_phase(&book, Phase::Extension)?,
+        &in_phase(&book, Phase::Extension),
         [200_000, 300, 250, 200],
     )
 }

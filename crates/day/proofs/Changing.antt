@@ -1,7 +1,7 @@
 -- What one accepted request changes in the account: one line at most, which stays the line of the same order.
 use Rattle.std.proofs.Common.{◌≡◌, ℕ, ◌+◌, ◌-◌, ◌<◌, ◌≤◌, Bool, false, not, ◌&&◌, eqb, ltb, leb, ◌⊎◌, [], ◌∷◌, ◌++◌, length, get_or, set, Some, None, Option, sym, refl, ap, ◌∙◌, inl, inr, arith}
 use Rattle.std.proofs.lemmas.List.{length-set, length_push, get_or_append_left, get_or_push, get_or-set_same, get_or-set_other}
-use Rattle.std.proofs.lemmas.Bool.{cases_eq, cases_lt, not-false, or_parts, and_parts, leb-true, ltb-false}
+use Rattle.std.proofs.lemmas.Bool.{cases_eq, cases_lt, not-false, or_parts, and_parts, leb-true, leb-false, ltb-false}
 use Rattle.orders.specs.declared.Entry.{Entry}
 use Rattle.orders.specs.declared.refusal.Refusal.{Refusal}
 use Rattle.book.specs.Phases.{phase_of}
@@ -35,6 +35,7 @@ same_order l = record { number = refl; kind = refl; side = refl; flag = refl; br
 -- the lines have their places' numbers, their entry numbers are among those used and differ, no more is taken and
 -- cancelled than there was, and no displayed buy meets a displayed sell
 pub record Sound (a : Account) : Type 0 where
+  pub few : size a ≤ 128
   pub numbered : (i : ℕ) → i < size a → (at a i).number ≡ i + 1
   pub used : (i : ℕ) → i < size a → (1 ≤ (at a i).entry) × ((at a i).entry ≤ a.entries)
   pub apart : (i j : ℕ) → i < size a → j < size a → (at a i).entry ≡ (at a j).entry → i ≡ j
@@ -54,6 +55,7 @@ record Change (a after : Account) : Type 0 where
   pub new : Line
   pub one_place : OnePlace a after place new
   pub longer : size a ≤ size after
+  pub few : size after ≤ 128
   pub grown : a.entries ≤ after.entries
   pub number : new.number ≡ place + 1
   pub named : (1 ≤ new.entry) × (new.entry ≤ after.entries)
@@ -65,6 +67,7 @@ record Change (a after : Account) : Type 0 where
 -- a changed account stays sound
 sound_after : (a after : Account) → Sound a → Change a after → Sound after
 sound_after a after s c = record {
+  few = c.few;
   numbered = λ i h. elim (c.one_place i h) [
     | inl p ↦ ap (λ l. l.number) p.1 ∙ c.number ∙ ap (λ n. n + 1) (sym p.0)
     | inr p ↦ ap (λ l. l.number) p.2 ∙ s.numbered i p.1
@@ -155,6 +158,7 @@ module _ (a : Account) (s : Sound a) where
         new = l;
         one_place = place_set a after i l here lines;
         longer = omega (arith, long);
+        few = omega (arith, long, s.few);
         grown = omega (arith, entries);
         number = same.number ∙ s.numbered i here;
         named = (omega (arith, entry, u.0), omega (arith, entry, u.1, entries));
@@ -174,6 +178,7 @@ module _ (a : Account) (s : Sound a) where
         new = l;
         one_place = place_set a after i l here lines;
         longer = omega (arith, long);
+        few = omega (arith, long, s.few);
         grown = omega (arith, entries);
         number = same.number ∙ s.numbered i here;
         named = (omega (arith, entry), omega (arith, entry, entries));
@@ -184,15 +189,16 @@ module _ (a : Account) (s : Sound a) where
       }
 
   -- a line more
-  line_added : (after : Account) (l : Line) → after.lines ≡ a.lines ++ l ∷ [] → after.entries ≡ a.entries + 1
+  line_added : (after : Account) (l : Line) → size a < 128 → after.lines ≡ a.lines ++ l ∷ [] → after.entries ≡ a.entries + 1
       → l.number ≡ size a + 1 → l.entry ≡ a.entries + 1 → l.taken + l.cancelled ≤ l.volume → ClearOfOthers a (size a) l → Change a after
-  line_added after l lines entries number entry spent clear =
+  line_added after l room lines entries number entry spent clear =
       let long = ap length lines ∙ length_push a.lines l in
       record {
         place = size a;
         new = l;
         one_place = place_more a after l lines;
         longer = omega (arith, long);
+        few = omega (arith, long, room);
         grown = omega (arith, entries);
         number = number;
         named = (omega (arith, entry), omega (arith, entry, entries));
@@ -207,7 +213,8 @@ module _ (a : Account) (s : Sound a) where
     enter_changes : (e : Entry) → first_refusal (tests holds a (request.Enter e)) ≡ None → Change a (accepted a (request.Enter e))
     enter_changes e ok =
         let rows = none_holds (tests holds a (request.Enter e)) ok in
-        line_added (accepted a (request.Enter e)) (new_line a e) refl refl refl refl (omega arith) (λ j h _. clear_of_each a (new_line a e) e refl refl refl rows.1.1.1.1.1.0 j h)
+        let room = leb-false 128 (size a) (or_parts (leb 128 (size a)) _ rows.1.0).0 in
+        line_added (accepted a (request.Enter e)) (new_line a e) room refl refl refl refl (omega arith) (λ j h _. clear_of_each a (new_line a e) e refl refl refl rows.1.1.1.1.1.0 j h)
 
     amend_changes : (n limit : ℕ) → first_refusal (tests holds a (request.Amend n limit)) ≡ None → Change a (accepted a (request.Amend n limit))
     amend_changes n limit ok =
@@ -256,7 +263,7 @@ module _ (a : Account) (s : Sound a) where
     accepted_stays (request.Cancel n) ok = stays_by a (accepted a (request.Cancel n)) s (cancel_changes n ok)
     accepted_stays (request.Take n v) ok = stays_by a (accepted a (request.Take n v)) s (take_changes n v ok)
     accepted_stays request.Advance ok = record {
-      sound = record { numbered = s.numbered; used = s.used; apart = s.apart; spent = s.spent; uncrossed = s.uncrossed };
+      sound = record { few = s.few; numbered = s.numbered; used = s.used; apart = s.apart; spent = s.spent; uncrossed = s.uncrossed };
       longer = omega arith;
       same = λ i h. same_order (at a i);
     }

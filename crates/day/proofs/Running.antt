@@ -7,18 +7,20 @@ use Rattle.orders.specs.declared.Entry.{Entry}
 use Rattle.orders.specs.declared.refusal.Refusal.{Refusal}
 use Rattle.book.specs.Calls.{recorded}
 use Rattle.book.specs.Tests.{first_refusal, answered, changed}
+use Rattle.book.specs.Views.{references_in, totals_from, notice_from}
 use Rattle.book.specs.declared.requests.Answer.{Answer}
 use Rattle.book.specs.declared.requests.Answer.TheVariants.{Entered}
 use Rattle.book.specs.declared.requests.Request.{Request}
 use Rattle.book.specs.declared.requests.Request.TheVariants.{Enter}
 use Rattle.day.proofs.Changing.{at, size, SameOrder, Sound, Stays, stays, noted_stays}
-use Rattle.day.proofs.Showing.{known_has, at_line}
+use Rattle.day.proofs.Showing.{known_has, at_line, all_listed}
 use Rattle.day.specs.Account.{Line, Account, begun, order_of, orders, no_line, line}
 use Rattle.day.specs.Law.{book_of, Keeps, Uncrossed, Follows}
 use Rattle.day.specs.Noting.{tests, new_line, accepted, noted, answer_noted, account}
 
 pub sound_begun : (close : ℕ) → Sound (begun close)
 sound_begun close = record {
+  few = omega arith;
   numbered = λ i h. absurd (omega (arith, h));
   used = λ i h. absurd (omega (arith, h));
   apart = λ i j h k e. absurd (omega (arith, h));
@@ -94,7 +96,7 @@ module _ (holds : ℕ → Bool) where
   -- the place of an order that the book knows
   known_place : (a : Account) → Sound a → (n : ℕ) → known (book_of a).table n ≡ true → (1 ≤ n) × (n - 1 < size a)
   known_place a s n k =
-      let parts = and_parts (leb 1 n) _ (sym (known_has a n) ∙ k) in
+      let parts = and_parts (leb 1 n) _ (sym (known_has a s.few n) ∙ k) in
       let from = leb-true 1 n parts.0 in
       (from, omega (arith, from, leb-true n (size a) parts.1))
 
@@ -105,19 +107,19 @@ module _ (holds : ℕ → Bool) where
     apart = λ m n km kn same.
         let pm = known_place a s m km in
         let pn = known_place a s n kn in
-        let e : (line a m).entry ≡ (line a n).entry = sym (ap (λ o. o.entry) (at_line a m)) ∙ same ∙ ap (λ o. o.entry) (at_line a n) in
+        let e : (line a m).entry ≡ (line a n).entry = sym (ap (λ o. o.entry) (at_line a s.few m)) ∙ same ∙ ap (λ o. o.entry) (at_line a s.few n) in
         omega (arith, pm.0, pn.0, s.apart (m - 1) (n - 1) pm.1 pn.1 e);
     used = λ n k.
         let u = s.used (n - 1) (known_place a s n k).1 in
-        let e : (recorded (book_of a) n).entry ≡ (line a n).entry = ap (λ o. o.entry) (at_line a n) in
+        let e : (recorded (book_of a) n).entry ≡ (line a n).entry = ap (λ o. o.entry) (at_line a s.few n) in
         (omega (arith, u.0, e), omega (arith, u.1, e));
     kept = λ past later e n split ok.
-        subst (λ o. Keeps n e o) (sym (at_line a n))
+        subst (λ o. Keeps n e o) (sym (at_line a s.few n))
         (subst (λ xs. Keeps n e (order_of (line (account holds (begun close) xs) n))) (sym split) (keeps (begun close) (sound_begun close) past later e n ok));
-    adds_up = λ n k. rw (at_line a n) (whole (line a n).volume (line a n).taken (line a n).cancelled (s.spent (n - 1) (known_place a s n k).1));
-    uncrossed = uncrossed_orders;
-    totals = λ p. refl;
-    notice = refl;
+    adds_up = λ n k. rw (at_line a s.few n) (whole (line a n).volume (line a n).taken (line a n).cancelled (s.spent (n - 1) (known_place a s n k).1));
+    uncrossed = subst Uncrossed (sym (all_listed a s.few)) uncrossed_orders;
+    totals = λ p. ap (λ os. totals_from holds os p (references_in a.state os a.sale a.close)) (all_listed a s.few);
+    notice = ap (λ os. notice_from holds os (references_in a.state os a.sale a.close)) (all_listed a s.few);
   }
     where
       a : Account

@@ -1,13 +1,14 @@
 -- The book that shows the account, and how one call on it follows one request in the account.
-use Rattle.std.proofs.Common.{◌≡◌, ℕ, zero, suc, ◌+◌, ◌-◌, Bool, true, false, cond, not, leb, List, [], ◌∷◌, ◌++◌, map, length, get_or, set, Some, None, Option, sym, refl, ap, ◌∙◌, arith}
-use Rattle.std.proofs.lemmas.List.{length-map, map-set, map_push}
-use Rattle.std.proofs.lemmas.Bool.{not-false, or_parts, leb-false, lt-ltb}
+use Rattle.std.proofs.Common.{◌≡◌, ℕ, zero, suc, ◌+◌, ◌-◌, ◌<◌, ◌≤◌, min, Bool, true, false, cond, not, leb, List, [], ◌∷◌, ◌++◌, map, length, get_or, set, replicate, Some, None, Option, sym, refl, ap, ◌∙◌, arith}
+use Rattle.std.proofs.lemmas.List.{length-map, length-set, length_push, map-set, set-append_left, take_at}
+use Rattle.std.proofs.lemmas.Bool.{not-false, or_parts, and_parts, leb-true, leb-false, lt-ltb}
 use Rattle.std.proofs.lemmas.Bool.Decides.{nat_tests}
-use Rattle.orders.specs.Tables.{blank, size, table_of, known, with_order, with_more}
+use Rattle.orders.specs.Tables.{blank, listed, known, with_order, with_more}
 use Rattle.orders.specs.declared.Entry.{Entry}
 use Rattle.orders.specs.declared.refusal.Refusal.{Refusal}
+use Rattle.orders.specs.declared.table.Order.{Order}
 use Rattle.orders.specs.declared.table.OrderTable.{OrderTable}
-use Rattle.book.specs.Calls.{recorded, order_from, with_left, with_limit, enter_tests, entered, amend_tests, amended, cancel_tests, cancelled, take_tests, taken, advanced}
+use Rattle.book.specs.Calls.{recorded, with_left, with_limit, enter_tests, entered, amend_tests, amended, cancel_tests, cancelled, take_tests, taken, advanced}
 use Rattle.book.specs.Phases.{phase_of, next_state, offset_by}
 use Rattle.book.specs.Requests.{answering, request_answer, request_book}
 use Rattle.book.specs.Tests.{Tests, first_refusal, answered, changed}
@@ -18,37 +19,66 @@ use Rattle.book.specs.declared.requests.Request.{Request}
 use Rattle.book.specs.declared.requests.Request.TheVariants as request
 use Rattle.day.proofs.Deciding.{none_holds}
 use Rattle.day.specs.Account.{Line, Account, order_of, orders, has, no_line, line}
-use Rattle.day.specs.Law.{book_of}
+use Rattle.day.specs.Law.{table_of, book_of}
 use Rattle.day.specs.Noting.{tests, new_line, re_entered, with_cancelled, with_taken, accepted, noted, answer_noted}
 
 -- a place of the table shows the line with its number, and a blank where there is none
-shows_at : (ls : List Line) (i : ℕ) → get_or (map order_of ls) i blank ≡ order_of (get_or ls i no_line)
-shows_at [] i = refl
-shows_at (l ∷ ls) zero = refl
-shows_at (l ∷ ls) (suc i) = shows_at ls i
+shows_at : (ls : List Line) (k i : ℕ) → get_or (map order_of ls ++ replicate k blank) i blank ≡ order_of (get_or ls i no_line)
+shows_at [] zero i = refl
+shows_at [] (suc k) zero = refl
+shows_at [] (suc k) (suc i) = shows_at [] k i
+shows_at (l ∷ ls) k zero = refl
+shows_at (l ∷ ls) k (suc i) = shows_at ls k i
 
-module _ (a : Account) where
-  sized : size (book_of a).table ≡ length a.lines
-  sized = length-map a.lines order_of
+-- a new line takes the first blank place
+pushed : (ls : List Line) (k : ℕ) (l : Line) → map order_of (ls ++ l ∷ []) ++ replicate k blank ≡ set (map order_of ls ++ replicate (suc k) blank) (length ls) (order_of l)
+pushed [] k l = refl
+pushed (x ∷ ls) k l = ap (λ os. order_of x ∷ os) (pushed ls k l)
 
+module _ (a : Account) (few : length a.lines ≤ 128) where
   pub known_has : (n : ℕ) → known (book_of a).table n ≡ has a n
-  known_has n = let same = sized in grind (arith, nat_tests)
+  known_has n = grind (arith, nat_tests)
 
   pub at_line : (n : ℕ) → recorded (book_of a) n ≡ order_of (line a n)
-  at_line n = shows_at a.lines (n - 1)
+  at_line n = shows_at a.lines (128 - length a.lines) (n - 1)
+
+  pub all_listed : listed (book_of a).table ≡ orders a
+  all_listed = take_at (orders a) (replicate (128 - length a.lines) blank) (min (length a.lines) 128) (omega (arith, length-map a.lines order_of))
 
   -- one line changed is one order changed
-  line_set : (n : ℕ) (l : Line) → has a n ≡ true → with_order (table_of (orders a)) n (order_of l) ≡ table_of (map order_of (set a.lines (n - 1) l))
+  line_set : (n : ℕ) (l : Line) → has a n ≡ true → with_order (table_of a.lines) n (order_of l) ≡ table_of (set a.lines (n - 1) l)
   line_set n l h =
-      ap (λ t. cond t (table_of (set (orders a) (n - 1) (order_of l))) (table_of (orders a))) (known_has n ∙ h)
-      ∙ ap table_of (sym (map-set order_of a.lines (n - 1) l))
+      let ls = a.lines in
+      let parts = and_parts (leb 1 n) _ h in
+      let from = leb-true 1 n parts.0 in
+      let to = leb-true n (length ls) parts.1 in
+      let place : n - 1 < length (map order_of ls) = omega (arith, length-map ls order_of) in
+      let same_length = length-set ls (n - 1) l in
+      let orders_after : map order_of (set ls (n - 1) l) ++ replicate (128 - length (set ls (n - 1) l)) blank ≡ set (map order_of ls ++ replicate (128 - length ls) blank) (n - 1) (order_of l)
+      = ap (λ m. map order_of (set ls (n - 1) l) ++ replicate (128 - m) blank) same_length
+      ∙ ap (λ os. os ++ replicate (128 - length ls) blank) (map-set order_of ls (n - 1) l)
+      ∙ sym (set-append_left (map order_of ls) (replicate (128 - length ls) blank) (n - 1) (order_of l) place) in
+      ap (λ t. cond t (table (set (map order_of ls ++ replicate (128 - length ls) blank) (n - 1) (order_of l)) (length ls)) (table_of ls)) (known_has n ∙ h)
+      ∙ ap (λ os. table os (length ls)) (sym orders_after)
+      ∙ ap (table (map order_of (set ls (n - 1) l) ++ replicate (128 - length (set ls (n - 1) l)) blank)) (sym same_length)
+    where
+      table : List Order → ℕ → OrderTable
+      table os n = record { orders = record { places = os; count = n } }
 
   -- one line more is one order more
-  line_more : (l : Line) → leb 128 (length a.lines) ≡ false → with_more (table_of (orders a)) (order_of l) ≡ table_of (map order_of (a.lines ++ l ∷ []))
+  line_more : (l : Line) → leb 128 (length a.lines) ≡ false → with_more (table_of a.lines) (order_of l) ≡ table_of (a.lines ++ l ∷ [])
   line_more l room =
-      let short = leb-false 128 (length a.lines) room in
-      ap (λ t. cond t (table_of (orders a ++ order_of l ∷ [])) (table_of (orders a))) (lt-ltb (size (book_of a).table) 128 (omega (arith, sized)))
-      ∙ ap table_of (sym (map_push order_of a.lines l))
+      let ls = a.lines in
+      let short = leb-false 128 (length ls) room in
+      let more = length_push ls l in
+      let blanks : 128 - length ls ≡ suc (128 - length (ls ++ l ∷ [])) = omega arith in
+      ap (λ t. record { orders = cond t (table (set (map order_of ls ++ replicate (128 - length ls) blank) (length ls) (order_of l)) (length ls + 1)).orders (table_of ls).orders }) (lt-ltb (length ls) 128 (omega arith))
+      ∙ ap (λ k. table (set (map order_of ls ++ replicate k blank) (length ls) (order_of l)) (length ls + 1)) blanks
+      ∙ ap (λ os. table os (length ls + 1)) (sym (pushed ls (128 - length (ls ++ l ∷ [])) l))
+      ∙ ap (table (map order_of (ls ++ l ∷ []) ++ replicate (128 - length (ls ++ l ∷ [])) blank)) (sym more)
+    where
+      table : List Order → ℕ → OrderTable
+      table os n = record { orders = record { places = os; count = n } }
 
 -- the answer of a call, as the answer to a request
 answering_of : {A : Type 0} (f : A → Answer) (o : Option Refusal) (x : A) → answering f (answered o x) ≡ answered o (f x)
@@ -64,20 +94,20 @@ decided_alike a after moved rows done = go (first_refusal rows) refl
     go None e = done e
     go (Some x) e = refl
 
-module _ (holds : ℕ → Bool) (a : Account) where
+module _ (holds : ℕ → Bool) (a : Account) (few : length a.lines ≤ 128) where
   -- the tests of a call on the book are the account's
 
   enter_same : (e : Entry) → enter_tests holds (book_of a) e ≡ tests holds a (request.Enter e)
-  enter_same e = rw (sized a) refl
+  enter_same e = rw (all_listed a few) refl
 
   amend_same : (n limit : ℕ) → amend_tests holds (book_of a) n limit ≡ tests holds a (request.Amend n limit)
-  amend_same n limit = rw (known_has a n, at_line a n) refl
+  amend_same n limit = rw (known_has a few n, at_line a few n) refl
 
   cancel_same : (n : ℕ) → cancel_tests (book_of a) n ≡ tests holds a (request.Cancel n)
-  cancel_same n = rw (known_has a n, at_line a n) refl
+  cancel_same n = rw (known_has a few n, at_line a few n) refl
 
   take_same : (n v : ℕ) → take_tests (book_of a) n v ≡ tests holds a (request.Take n v)
-  take_same n v = rw (known_has a n, at_line a n) refl
+  take_same n v = rw (known_has a few n, at_line a few n) refl
 
   -- what an accepted call makes of the book is what the account shows
 
@@ -87,9 +117,8 @@ module _ (holds : ℕ → Bool) (a : Account) where
   enter_shows : (e : Entry) → first_refusal (tests holds a (request.Enter e)) ≡ None → entered (book_of a) e ≡ book_of (accepted a (request.Enter e))
   enter_shows e ok =
       let room = (or_parts (leb 128 (length a.lines)) _ (none_holds (tests holds a (request.Enter e)) ok).1.0).0 in
-      ap (λ n. book (with_more (table_of (orders a)) (order_from (n + 1) (a.entries + 1) (phase_of a.state) e))) (sized a)
-      ∙ ap (λ left. book (with_more (table_of (orders a)) (with_left (order_of (new_line a e)) left))) (whole e.volume)
-      ∙ ap book (line_more a (new_line a e) room)
+      ap (λ left. book (with_more (table_of a.lines) (with_left (order_of (new_line a e)) left))) (whole e.volume)
+      ∙ ap book (line_more a few (new_line a e) room)
     where
       whole : (v : ℕ) → v ≡ v - 0 - 0
       whole v = omega arith
@@ -100,8 +129,8 @@ module _ (holds : ℕ → Bool) (a : Account) where
   amend_shows : (n limit : ℕ) → first_refusal (tests holds a (request.Amend n limit)) ≡ None → amended (book_of a) n limit ≡ book_of (accepted a (request.Amend n limit))
   amend_shows n limit ok =
       let there = in_table n (none_holds (tests holds a (request.Amend n limit)) ok).1.1.1.0 in
-      ap (λ o. book (with_order (table_of (orders a)) n (with_limit o (a.entries + 1) limit))) (at_line a n)
-      ∙ ap book (line_set a n (re_entered (line a n) (a.entries + 1) limit) there)
+      ap (λ o. book (with_order (table_of a.lines) n (with_limit o (a.entries + 1) limit))) (at_line a few n)
+      ∙ ap book (line_set a few n (re_entered (line a n) (a.entries + 1) limit) there)
     where
       book : OrderTable → Book
       book t = record { table = t; entries = a.entries + 1; previous_close = a.close; last_sale = a.sale; state = a.state }
@@ -110,9 +139,9 @@ module _ (holds : ℕ → Bool) (a : Account) where
   cancel_shows n ok =
       let there = in_table n (none_holds (tests holds a (request.Cancel n)) ok).1.0 in
       let l = line a n in
-      ap (λ o. book (with_order (table_of (orders a)) n (with_left o 0))) (at_line a n)
-      ∙ ap (λ left. book (with_order (table_of (orders a)) n (with_left (order_of l) left))) (gone l.volume l.taken l.cancelled)
-      ∙ ap book (line_set a n (with_cancelled l) there)
+      ap (λ o. book (with_order (table_of a.lines) n (with_left o 0))) (at_line a few n)
+      ∙ ap (λ left. book (with_order (table_of a.lines) n (with_left (order_of l) left))) (gone l.volume l.taken l.cancelled)
+      ∙ ap book (line_set a few n (with_cancelled l) there)
     where
       gone : (v t c : ℕ) → 0 ≡ v - t - (c + (v - t - c))
       gone v t c = omega arith
@@ -124,9 +153,9 @@ module _ (holds : ℕ → Bool) (a : Account) where
   take_shows n v ok =
       let there = in_table n (none_holds (tests holds a (request.Take n v)) ok).1.0 in
       let l = line a n in
-      ap (λ o. book o.limit (with_order (table_of (orders a)) n (with_left o (o.left - v)))) (at_line a n)
-      ∙ ap (λ left. book l.limit (with_order (table_of (orders a)) n (with_left (order_of l) left))) (less l.volume l.taken l.cancelled)
-      ∙ ap (book l.limit) (line_set a n (with_taken l v) there)
+      ap (λ o. book o.limit (with_order (table_of a.lines) n (with_left o (o.left - v)))) (at_line a few n)
+      ∙ ap (λ left. book l.limit (with_order (table_of a.lines) n (with_left (order_of l) left))) (less l.volume l.taken l.cancelled)
+      ∙ ap (book l.limit) (line_set a few n (with_taken l v) there)
     where
       less : (w t c : ℕ) → w - t - c - v ≡ w - (t + v) - c
       less w t c = omega arith
@@ -155,18 +184,17 @@ module _ (holds : ℕ → Bool) (a : Account) where
 
   pub answer_follows : (r : Request) → request_answer holds (book_of a) r ≡ answer_noted holds a r
   answer_follows (request.Enter e) =
-      answering_of answer.Entered (first_refusal (enter_tests holds (book_of a) e)) (size (book_of a).table + 1)
-      ∙ ap (λ rows. answered (first_refusal rows) (answer.Entered (size (book_of a).table + 1))) (enter_same e)
-      ∙ ap (λ n. answered (first_refusal (tests holds a (request.Enter e))) (answer.Entered (n + 1))) (sized a)
+      answering_of answer.Entered (first_refusal (enter_tests holds (book_of a) e)) (length a.lines + 1)
+      ∙ ap (λ rows. answered (first_refusal rows) (answer.Entered (length a.lines + 1))) (enter_same e)
   answer_follows (request.Amend n limit) =
       answering_of answer.Amended (first_refusal (amend_tests holds (book_of a) n limit)) (a.entries + 1)
       ∙ ap (λ rows. answered (first_refusal rows) (answer.Amended (a.entries + 1))) (amend_same n limit)
   answer_follows (request.Cancel n) =
       answering_of answer.Cancelled (first_refusal (cancel_tests (book_of a) n)) (recorded (book_of a) n).left
       ∙ ap (λ rows. answered (first_refusal rows) (answer.Cancelled (recorded (book_of a) n).left)) (cancel_same n)
-      ∙ ap (λ o. answered (first_refusal (tests holds a (request.Cancel n))) (answer.Cancelled o.left)) (at_line a n)
+      ∙ ap (λ o. answered (first_refusal (tests holds a (request.Cancel n))) (answer.Cancelled o.left)) (at_line a few n)
   answer_follows (request.Take n v) =
       answering_of answer.Left (first_refusal (take_tests (book_of a) n v)) ((recorded (book_of a) n).left - v)
       ∙ ap (λ rows. answered (first_refusal rows) (answer.Left ((recorded (book_of a) n).left - v))) (take_same n v)
-      ∙ ap (λ o. answered (first_refusal (tests holds a (request.Take n v))) (answer.Left (o.left - v))) (at_line a n)
+      ∙ ap (λ o. answered (first_refusal (tests holds a (request.Take n v))) (answer.Left (o.left - v))) (at_line a few n)
   answer_follows request.Advance = answering_of answer.Moved (first_refusal (tests holds a request.Advance)) (phase_of (next_state a.state))

@@ -72,11 +72,11 @@ module _ (holds : ℕ → Bool) where
             ∙ ap (set (requests turns) n) (same ∙ sym (get_or-map (λ turn. turn.request) turns n d d.request short))
             ∙ set-get_or (requests turns) n d.request
             ∙ so.same_requests;
-        book = moved ∙ ap (λ q. request_book holds q r) so.book ∙ book_follows holds a r ∙ ap book_of (sym more);
+        book = moved ∙ ap (λ q. request_book holds q r) so.book ∙ book_follows holds a s.few r ∙ ap book_of (sym more);
         answered =
             ap given_answers (take_more_set turns n x short)
             ∙ map_push (λ turn. turn.answer) (take n turns) x
-            ∙ ap (λ q. given_answers (take n turns) ++ q ∷ []) (answer ∙ ap (λ q. request_answer holds q r) so.book ∙ answer_follows holds a r)
+            ∙ ap (λ q. given_answers (take n turns) ++ q ∷ []) (answer ∙ ap (λ q. request_answer holds q r) so.book ∙ answer_follows holds a s.few r)
             ∙ ap (λ xs. xs ++ answer_noted holds a r ∷ []) so.answered
             ∙ sym (answers_push (begun close) (take n rs) r)
             ∙ ap (answers holds (begun close)) (sym asked_more);

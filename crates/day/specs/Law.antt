@@ -1,12 +1,13 @@
 -- The law of the requests: the book follows the account, whatever the requests are.
-use Rattle.std.specs.Prelude.{◌≡◌, ℕ, ◌+◌, ◌<◌, ◌≤◌, Bool, true, false, ◌⊎◌, List, [], ◌∷◌, ◌++◌, map, length, get_or, Ok, Result, MatchResult, slice_index_or}
+use Rattle.std.specs.Prelude.{◌≡◌, ℕ, ◌+◌, ◌-◌, ◌<◌, ◌≤◌, Bool, true, false, ◌⊎◌, List, [], ◌∷◌, ◌++◌, map, length, get_or, replicate, Ok, Result, MatchResult, slice_index_or}
 use Rattle.orders.specs.Refusals.{refusal_number}
-use Rattle.orders.specs.Tables.{blank, listed, table_of, known}
+use Rattle.orders.specs.Tables.{blank, listed, known}
 use Rattle.orders.specs.declared.Entry.{Entry}
 use Rattle.orders.specs.declared.Side.TheVariants.{Buy, Sell}
 use Rattle.orders.specs.declared.refusal.Refusal.{Refusal}
 use Rattle.orders.specs.declared.refusal.Refusal.TheVariants.{BadOpening}
 use Rattle.orders.specs.declared.table.Order.{Order}
+use Rattle.orders.specs.declared.table.OrderTable.{OrderTable}
 use Rattle.book.specs.Calls.{recorded}
 use Rattle.book.specs.Tests.{Tests}
 use Rattle.book.specs.Views.{totals_from, notice_from, book_totals, book_notice}
@@ -16,13 +17,16 @@ use Rattle.book.specs.declared.requests.Answer.TheVariants.{Entered}
 use Rattle.book.specs.declared.requests.Request.{Request}
 use Rattle.book.specs.declared.requests.Request.TheVariants.{Enter}
 use Rattle.reference.specs.Quote.{quotes_on}
-use Rattle.day.specs.Account.{Account, begun, orders, line, references}
+use Rattle.day.specs.Account.{Line, Account, begun, order_of, orders, line, references}
 use Rattle.day.specs.Noting.{tests, answer_noted, account, answers}
 use Rattle.day.specs.declared.Turn.{Turn}
 
--- the book that records what the account says
+-- the table and the book that record what the account says
+abbrev pub table_of : List Line → OrderTable
+table_of ls = record { orders = record { places = map order_of ls ++ replicate (128 - length ls) blank; count = length ls } }
+
 abbrev pub book_of : Account → Book
-book_of a = record { table = table_of (orders a); entries = a.entries; previous_close = a.close; last_sale = a.sale; state = a.state }
+book_of a = record { table = table_of a.lines; entries = a.entries; previous_close = a.close; last_sale = a.sale; state = a.state }
 
 abbrev pub requests : List Turn → List Request
 requests turns = map (λ turn. turn.request) turns

@@ -61,3 +61,13 @@ last_at best n (x ∷ xs) (suc k) zero e short (before, behind) =
     cond-true (nat_le x n) (last_to x n xs) best (before 0 0 (omega arith) (omega arith)) ∙ last_before x n xs k (omega arith) (behind_first (λ p. nat_le p n ≡ true) (λ p. nat_le p n ≡ false) x xs k (before, behind))
 last_at best n (x ∷ xs) (suc k) (suc last) e short (before, behind) =
     cond-true (nat_le x n) (last_to x n xs) best (before 0 0 (omega arith) (omega arith)) ∙ last_at x n xs k last (omega arith) (omega arith) (behind_first (λ p. nat_le p n ≡ true) (λ p. nat_le p n ≡ false) x xs k (before, behind))
+
+-- a number at or below the first price leads to that price
+pub first_here : (n : ℕ) (ps : List ℕ) → 0 < length ps → n ≤ slice_index ps 0 → slice_index ps 0 ≡ first_from n ps
+first_here n [] some under = absurd (omega arith)
+first_here n (x ∷ xs) some under = sym (cond-true (nat_le n x) x (first_from n xs) (grind (arith, nat_tests)))
+
+-- and no price is at or below a number under the first
+pub none_under : (best n : ℕ) (ps : List ℕ) → 0 < length ps → n < slice_index ps 0 → last_to best n ps ≡ best
+none_under best n [] some under = absurd (omega arith)
+none_under best n (x ∷ xs) some under = cond-false (nat_le x n) (last_to x n xs) best (grind (arith, nat_tests))

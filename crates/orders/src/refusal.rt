@@ -6,12 +6,12 @@ ghost use Rattle.orders.specs.Words.{offset_words, refusal_words};
 use std::error::Error;
 use std::fmt;
 
-// Why an order does not offset the imbalance that the extension advertises, each with its number as a refusal.
+// Why an order does not offset the imbalance that the extension advertises: refusals 8, 9 and 10, in turn.
 #[derive(Clone, Copy, Debug, PartialEq, Eq)]
 pub enum Offset {
-    WrongSide = 8,
-    TooLarge = 9,
-    OutsideBand = 10,
+    WrongSide,
+    TooLarge,
+    OutsideBand,
 }
 
 #[derive(Clone, Copy, Debug, PartialEq, Eq)]
@@ -43,7 +43,7 @@ impl Offset {
     pub fn number(self) -> u8
         ensures { result ≡ offset_number self }
     {
-        self as u8
+        8 + self as u8
     }
 
     // Why, in words.

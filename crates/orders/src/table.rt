@@ -1,9 +1,9 @@
 // Orders, and the table of 128 that holds them.
-ghost use Rattle.std.specs.Prelude.{◌≡◌, ◌≤◌, [], length, if◌then◌else◌, Some, None};
-ghost use Rattle.orders.specs.Tables.{listed, size, table_of, known, order_at, with_order, has_room, with_more, OthersSame};
+ghost use Rattle.std.specs.Prelude.{◌≡◌, ◌≤◌, length, if◌then◌else◌, Some, None};
+ghost use Rattle.orders.specs.Tables.{listed, size, no_orders, known, order_at, with_order, has_room, with_more, OthersSame};
 
 use crate::{Kind, PegFlag, Phase, Side};
-use arrayvec::ArrayVec;
+use fixed_list::FixedList;
 
 // A day has no more orders, and no call finds more.
 pub const MOST_ORDERS: usize = 128;
@@ -28,25 +28,28 @@ pub struct Order {
 }
 
 // The orders accepted, in turn: the order with number n is the n-th.
-#[derive(Clone, Debug, PartialEq, Eq, Drop)]
+#[derive(Clone, Copy, Debug, PartialEq, Eq)]
 pub struct OrderTable {
-    pub orders: ArrayVec<Order, MOST_ORDERS>,
+    pub orders: FixedList<Order, MOST_ORDERS>,
 }
 
 impl OrderTable {
     pub fn new() -> OrderTable
-        ensures { result ≡ table_of [] }
+        ensures { result ≡ no_orders }
     {
         OrderTable {
-            orders: ArrayVec::new(),
+            orders: FixedList::new(Order::default()),
         }
     }
 
     pub fn get(&self, number: u16) -> Option<Order>
         ensures { result ≡ order_at self.now number }
     {
-        let place = usize::from(number).checked_sub(1)?;
-        self.as_slice().get(place).copied()
+        let place = usize::from(number);
+        if place == 0 || place > self.orders.count || place > MOST_ORDERS {
+            return None;
+        }
+        Some(self.orders.places[place - 1])
     }
 
     // The orders accepted, in turn.
@@ -64,10 +67,10 @@ impl OrderTable {
         ensures others { OthersSame self.old self.new number }
     {
         let place = usize::from(number);
-        if place == 0 || place > self.orders.len() {
+        if place == 0 || place > self.orders.count || place > MOST_ORDERS {
             return false;
         }
-        self.orders[place - 1] = order;
+        self.orders.places[place - 1] = order;
         true
     }
 
@@ -76,8 +79,6 @@ impl OrderTable {
         ensures answer { result ≡ (if has_room self.old then Some (size self.old) else None) }
         ensures after { self.new ≡ with_more self.old order }
     {
-        let place = self.orders.len();
-        self.orders.try_push(order).ok()?;
-        Some(place)
+        self.orders.push(order)
     }
 }

@@ -31,9 +31,9 @@ pub fn first<R: Ranking>(rule: &R, items: &[R::Item]) -> Option<usize>
         return None;
     }
     let mut first = 0;
-    // the first item is not before itself
+    // an item is not before itself, and is not compared with itself
     for (i, item) in items.iter().enumerate() {
-        if rule.precedes(item, &items[first]) {
+        if i != first && rule.precedes(item, &items[first]) {
             first = i;
         }
     }

@@ -3,7 +3,7 @@ ghost use Rattle.std.specs.Prelude.{◌≡◌, ◌+◌, ◌≤◌, [], ◌∷◌
 ghost use Rattle.auction.specs.Orders.{listed, size};
 
 use super::FoundOrders;
-use arrayvec::ArrayVec;
+use fixed_list::FixedList;
 use orders::found::FoundOrder;
 
 impl FoundOrders {
@@ -12,7 +12,7 @@ impl FoundOrders {
         ensures size { size result ≡ 0 }
     {
         FoundOrders {
-            orders: ArrayVec::new(),
+            orders: FixedList::new(FoundOrder::default()),
         }
     }
 
@@ -22,7 +22,7 @@ impl FoundOrders {
         ensures size { size self.new ≡ (if result then size self.old + 1 else size self.old) }
         ensures after { listed self.new ≡ (if result then listed self.old ++ (order ∷ []) else listed self.old) }
     {
-        self.orders.try_push(order).is_ok()
+        self.orders.push(order).is_some()
     }
 
     pub fn as_slice(&self) -> &[FoundOrder]

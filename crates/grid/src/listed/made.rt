@@ -1,5 +1,5 @@
 // How a listed grid is made, and what it answers.
-ghost use Rattle.std.specs.Prelude.{⊤, ◌≡◌, true, false, MatchResult};
+ghost use Rattle.std.specs.Prelude.{◌≡◌, true, false, MatchResult};
 ghost use Rattle.grid.specs.Lists.{rising, list_of_prices};
 ghost use Rattle.grid.specs.Listing.{listed, grid_number};
 ghost use Rattle.grid.specs.Prices.{among};
@@ -8,8 +8,7 @@ ghost use Rattle.grid.specs.Rising;
 
 use super::{Listed, NotAGrid};
 use crate::{Grid, HIGHEST, PriceSet};
-use arrayvec::{ArrayVec, CapacityError};
-use std::alloc::AllocError;
+use fixed_list::FixedList;
 
 impl NotAGrid {
     // A method, as every refusal has one: `u8::from(fault)` would not say that it is the number.
@@ -17,12 +16,6 @@ impl NotAGrid {
         ensures { result ≡ grid_number self }
     {
         1
-    }
-}
-
-impl From<CapacityError> for NotAGrid {
-    fn from(_too_many: CapacityError) -> NotAGrid {
-        NotAGrid
     }
 }
 
@@ -44,10 +37,10 @@ impl Listed {
     pub fn new(given: &[u32]) -> Result<Listed, NotAGrid>
         ensures { MatchResult result (λ g. (list_of_prices given.now ≡ true) × (listed g ≡ given.now)) (λ _. list_of_prices given.now ≡ false) }
     {
-        let prices = ArrayVec::try_from(given)?;
-        if prices.is_empty() || !is_rising(given) {
+        if given.is_empty() || !is_rising(given) {
             return Err(NotAGrid);
         }
+        let prices = FixedList::of(given, 0).ok_or(NotAGrid)?;
         Ok(Listed { prices })
     }
 
@@ -58,17 +51,6 @@ impl Listed {
     }
 }
 
-impl Clone for Listed {
-    ghost is_clone = { λ g h. listed h ≡ listed g };
-
-    ghost is_infallible = { λ _. ⊤ };
-
-    fn clone(&self) -> Result<Listed, AllocError> {
-        let prices = self.prices.clone()?;
-        Ok(Listed { prices })
-    }
-}
-
 impl PriceSet for Listed {
     ghost holds = { λ g. among (listed g) };
 
@@ -76,12 +58,18 @@ impl PriceSet for Listed {
 
     fn at_or_above(&self, n: u32) -> u32 {
         let prices = self.prices();
+        if n <= prices[0] {
+            return prices[0];
+        }
         let below = prices.partition_point(|p| *p < n);
         prices.get(below).copied().unwrap_or(0)
     }
 
     fn at_or_below(&self, n: u32) -> u32 {
         let prices = self.prices();
+        if n < prices[0] {
+            return 0;
+        }
         match prices.partition_point(|p| *p <= n).checked_sub(1) {
             Some(last) => prices[last],
             None => 0,

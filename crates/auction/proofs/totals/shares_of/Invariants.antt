@@ -9,7 +9,7 @@ Fit i t = (t.0 ≤ i * 2 ^ 32) × (t.1 ≤ i * 2 ^ 32)
 
 abbrev pub invariant-loop-order : goal.invariant-loop-order
 invariant-loop-order g l =
-    Fit l.order-index l.all
-    × Fit l.order-index l.closing
-    × ((test : FoundOrder → Bool) → Tells g.F.Fn l.counts test → l.all ≡ shares_of test (take l.order-index l.order-items))
-    × ((test : FoundOrder → Bool) → Tells g.F.Fn l.counts test → l.closing ≡ shares_of (closing_and test) (take l.order-index l.order-items))
+    Fit l.order-index l.sums.all
+    × Fit l.order-index l.sums.closing
+    × ((test : FoundOrder → Bool) → Tells g.F.Fn l.counts test → l.sums.all ≡ shares_of test (take l.order-index l.order-items))
+    × ((test : FoundOrder → Bool) → Tells g.F.Fn l.counts test → l.sums.closing ≡ shares_of (closing_and test) (take l.order-index l.order-items))

@@ -1,11 +1,20 @@
-use Rattle.std.proofs.Common.{◌≡◌, ◌+◌, nat_le, length, slice_index, sym, ap, ◌∙◌, inl, inr, rules, arith}
+use Rattle.std.proofs.Common.{◌≡◌, ◌+◌, ◌<◌, subst, nat_le, length, slice_index, sym, ap, ◌∙◌, inl, inr, rules, arith}
 use Rattle.std.proofs.lemmas.Bool.{cases_lt}
 use Rattle.std.proofs.lemmas.Bool.Decides.{nat_tests}
 use Rattle.grid.specs.Listing.{listed}
 use Rattle.grid.specs.Lists.{last_to}
 use Rattle.grid.specs.Rising.{passed, to_below}
-use Rattle.grid.proofs.Parting.{cut, last_before, last_at}
+use Rattle.grid.proofs.Parting.{cut, last_before, last_at, none_under}
 use Rattle.grid.proofs.listed.made.ListedPriceSet.at_or_below.Goals as goal
+
+pub returns-then-n-prices : goal.returns-then-n-prices
+returns-then-n-prices c =
+    let n = c.args.n in
+    let ps = listed c.args.self.now in
+    let p = passed ps c.args.self.now.sound in
+    let under : n < slice_index ps 0 = subst (λ xs. n < slice_index xs 0) c.prices-prices.ensures c.if-n-prices.true in
+    let found = to_below 0 n ps p.up in
+    rw (sym (none_under 0 n ps p.some under)) (record { held = found.held; below = found.below (omega arith); greatest = found.greatest })
 
 pub returns-in-Some : goal.returns-in-Some
 returns-in-Some c =
